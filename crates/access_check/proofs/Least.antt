@@ -5,7 +5,7 @@ use Rattle.c_tree.specs.declared.lexer.tokens.Pos.{Pos}
 use Rattle.c_tree.specs.Order.{IsEarlier}
 use Rattle.kernel_model.specs.Refusals.{Rule, WritesRead, ReadsInc, IncNotSum, ReadsUnwritten, NotAllWritten, WriteIndexNotStatic, LiteralIndexOut, MinMaxForm, number_of}
 use Rattle.kernel_model.specs.Walk.{Breach, noted_if}
-use Rattle.kernel_model.proofs.Firsts.{Counts, IsFirst, first_iff, OrIf, noted_if_first}
+use Rattle.kernel_model.proofs.Public.{Counts, IsFirst, first_iff, OrIf, noted_if_first}
 use Rattle.lemmas.proofs.Truth.{decides_itself}
 
 abbrev pub Found : Type 0

@@ -1,15 +1,15 @@
-pub mod Bits
-pub mod Events
-pub mod Agreeing
-pub mod Walks
-pub mod Ends
-pub mod Small
-pub mod Refused
-pub mod Least
-pub mod Assigning
-pub mod Settled
-pub mod Unnamed
-pub mod OneTurn
-pub mod Sizes
-pub mod Chains
-pub mod StaticChains
+mod Bits
+mod Events
+mod Agreeing
+mod Walks
+mod Ends
+mod Small
+mod Refused
+mod Least
+mod Assigning
+mod Settled
+mod Unnamed
+mod OneTurn
+mod Sizes
+mod Chains
+mod StaticChains

@@ -33,7 +33,7 @@ use Rattle.bound_plan.specs.Laws.{Planned}
 use Rattle.bound_plan.specs.Given.{NumberLaws, ItemLaws, HaloLaws}
 use Rattle.bound_plan.proofs.Halos.{owner_is, executing}
 use Rattle.bound_plan.proofs.Sides.{executed_copy}
-use Rattle.run_model.proofs.Windows.{mode_is, is_argument}
+use Rattle.run_model.proofs.Public.{mode_is, is_argument}
 use Rattle.bound_plan.proofs.Framed.{on_frames}
 use Rattle.bound_plan.proofs.Among.{among_at, at_among}
 use Rattle.bound_plan.proofs.Indexed.{indexed}

@@ -9,7 +9,7 @@ use Rattle.bound_program.specs.Values.{BoundValue, SiteValue}
 use Rattle.run_model.specs.Windows.{reached, targets, window_of, cell_in}
 use Rattle.run_model.specs.Arguments.{no_arg, mode_of, modes_of, cell_of}
 use Rattle.run_model.specs.Laws.{WindowsAreReached}
-use Rattle.run_model.proofs.Windows.{wide, mode_is, is_argument}
+use Rattle.run_model.proofs.Public.{wide, mode_is, is_argument}
 use Rattle.bound_plan.specs.Windows.{dats_first, frame_cells, frame_windows}
 use Rattle.bound_plan.proofs.Arranged.{Has, arranged, of_arranged}
 

@@ -1,38 +1,39 @@
-pub mod Places
-pub mod Locals
-pub mod Loops
-pub mod Placed
-pub mod AlikeBack
-pub mod ByPlace
-pub mod Trace
-pub mod Globals
-pub mod DatArgs
-pub mod Halos
-pub mod Separated
-pub mod ReducingArgs
-pub mod Sides
-pub mod Coloured
-pub mod Touched
-pub mod Parts
-pub mod Arranged
-pub mod Framed
-pub mod Among
-pub mod Indexed
-pub mod FrameFacts
-pub mod Modified
-pub mod Cores
-pub mod ConstantCells
-pub mod Buffers
-pub mod Exports
-pub mod HostSees
-pub mod Onces
-pub mod DatsFirst
-pub mod Messages
-pub mod Standing
-pub mod Laid
-pub mod FirstState
-pub mod ItemsHold
-pub mod KernelsHold
-pub mod SameKernels
-pub mod AlikeDumps
-pub mod OneRun
+mod Places
+mod Locals
+mod Loops
+mod Placed
+mod AlikeBack
+mod ByPlace
+mod Trace
+mod Globals
+mod DatArgs
+mod Halos
+mod Separated
+mod ReducingArgs
+mod Sides
+mod Coloured
+mod Touched
+mod Parts
+mod Arranged
+mod Framed
+mod Among
+mod Indexed
+mod FrameFacts
+mod Modified
+mod Cores
+mod ConstantCells
+mod Buffers
+mod Exports
+mod HostSees
+mod Onces
+mod DatsFirst
+mod Messages
+mod Standing
+mod Laid
+mod FirstState
+mod ItemsHold
+mod KernelsHold
+mod SameKernels
+mod AlikeDumps
+mod OneRun
+pub mod Public

@@ -31,7 +31,7 @@ use Rattle.bound_plan.proofs.KernelsHold.{kernel, is_loop_of}
 use Rattle.bound_plan.proofs.Placed.{site_fits}
 use Rattle.bound_plan.proofs.Touched.{Merges, merges}
 use Rattle.bound_plan.proofs.Parts.{parts}
-use Rattle.run_model.proofs.Windows.{mode_is, is_argument}
+use Rattle.run_model.proofs.Public.{mode_is, is_argument}
 use Rattle.bound_plan.proofs.FrameFacts.{among_arg, arg_among}
 use Rattle.lemmas.proofs.Truth.{iff_eq}
 

@@ -1,28 +1,28 @@
-pub mod Spans
-pub mod Steps
-pub mod Complete
-pub mod Sound
-pub mod Turns
-pub mod LoopTurns
-pub mod StmtTurns
-pub mod HostTurns
-pub mod Far
-pub mod Exactness
-pub mod Lists
-pub mod Marks
-pub mod Items
-pub mod CallRows
-pub mod Separated
-pub mod Assigned
-pub mod Declared
-pub mod StmtHeads
-pub mod StmtLists
-pub mod Stmts
-pub mod HostHeads
-pub mod HostLists
-pub mod HostRows
-pub mod TopRows
-pub mod Parts
-pub mod Mains
-pub mod Programs
+mod Spans
+mod Steps
+mod Complete
+mod Sound
+mod Turns
+mod LoopTurns
+mod StmtTurns
+mod HostTurns
+mod Far
+mod Exactness
+mod Lists
+mod Marks
+mod Items
+mod CallRows
+mod Separated
+mod Assigned
+mod Declared
+mod StmtHeads
+mod StmtLists
+mod Stmts
+mod HostHeads
+mod HostLists
+mod HostRows
+mod TopRows
+mod Parts
+mod Mains
+mod Programs
 mod DeepFar

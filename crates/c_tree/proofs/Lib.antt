@@ -1,2 +1,3 @@
-pub mod Blocks
-pub mod Kept
+mod Blocks
+mod Kept
+pub mod Public

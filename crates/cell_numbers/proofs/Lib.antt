@@ -1,8 +1,8 @@
-pub mod Listed
-pub mod Parts
-pub mod Places
-pub mod Halos
-pub mod FreeRuns
-pub mod ShownNumbers
-pub mod Pushed
+mod Listed
+mod Parts
+mod Places
+mod Halos
+mod FreeRuns
+mod ShownNumbers
+mod Pushed
 mod OnRanks

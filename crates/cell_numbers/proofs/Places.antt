@@ -22,7 +22,7 @@ use Rattle.loop_plan.specs.declared.types.SitePlan.{SitePlan}
 use Rattle.loop_plan.specs.Values.{PlanValue, SitePlanValue, site_plan, site_plan_of, block_colour_in}
 use Rattle.loop_plan.specs.Places.{places_of}
 use Rattle.loop_plan.specs.Proper.{IsSitePlan}
-use Rattle.loop_plan.proofs.SetReads.{sets_at, own_within}
+use Rattle.loop_plan.proofs.Public.{sets_at, own_within}
 use Rattle.cell_numbers.specs.Numbers.{IsBlockColour}
 use Rattle.cell_numbers.specs.Shown.{IsOnRanks, IsFreeRun}
 

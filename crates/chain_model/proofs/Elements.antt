@@ -9,12 +9,7 @@ use Rattle.schedule_model.specs.Program.{Free, elements, is_loop}
 use Rattle.schedule_model.specs.Sequential.{Stop}
 use Rattle.schedule_model.specs.Machine.{unit_at, merge_at, window_of}
 use Rattle.schedule_model.specs.Laws.{Reaches}
-use Rattle.schedule_model.proofs.Fold.{folded_true, folded_false, folded_idle, folded_none}
-use Rattle.schedule_model.proofs.Law.{runs, keeps, idle, apart, unreduced, merge_unit, merge_amount, good_merge}
-use Rattle.schedule_model.proofs.Sequence.{store_at, good_store}
-use Rattle.schedule_model.proofs.Range.{Good}
-use Rattle.schedule_model.proofs.Least.{Each, each_push, Member, member_left, member_push}
-use Rattle.schedule_model.proofs.Inv.{Recorded}
+use Rattle.schedule_model.proofs.Public.{folded_true, folded_false, folded_idle, folded_none, runs, keeps, idle, apart, unreduced, merge_unit, merge_amount, good_merge, store_at, good_store, Good, Each, each_push, Member, member_left, member_push, Recorded}
 use Rattle.chain_model.specs.Machine.{left_in, ChainState, view, ran, one_run}
 use Rattle.chain_model.proofs.Given.{Given, chains, Comes, makes, breaks, owns, made, part, culprit}
 use Rattle.chain_model.proofs.Stores.{Has, put_here, put_else, cell_is, has_same, has_like, left_has, GoodStore, good_left, good_view}

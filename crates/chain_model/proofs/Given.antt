@@ -6,11 +6,7 @@ use Rattle.schedule_model.specs.Program.{Free, elements}
 use Rattle.schedule_model.specs.Setup.{Setup}
 use Rattle.schedule_model.specs.Sequential.{Stop, seq}
 use Rattle.schedule_model.specs.Machine.{unit_at}
-use Rattle.schedule_model.proofs.Fold.{folded}
-use Rattle.schedule_model.proofs.Law.{Law, fault, effect}
-use Rattle.schedule_model.proofs.Sequence.{is_going, store_at}
-use Rattle.schedule_model.proofs.Least.{Member}
-use Rattle.schedule_model.proofs.Facts.{is_reduce, source}
+use Rattle.schedule_model.proofs.Public.{folded, Law, fault, effect, is_going, store_at, Member, is_reduce, source}
 use Rattle.chain_model.specs.Slicing.{Slicing}
 use Rattle.chain_model.specs.ChainLaws.{AreSlices, sliced}
 

@@ -5,10 +5,7 @@ use Rattle.schedule_model.specs.Program.{is_free, elements}
 use Rattle.schedule_model.specs.Setup.{owner_of}
 use Rattle.schedule_model.specs.Sequential.{seq}
 use Rattle.schedule_model.specs.Machine.{unit_at}
-use Rattle.schedule_model.proofs.Sequence.{output_of, store_at}
-use Rattle.schedule_model.proofs.Least.{Each, Member}
-use Rattle.schedule_model.proofs.Facts.{source}
-use Rattle.schedule_model.proofs.Inv.{Recorded}
+use Rattle.schedule_model.proofs.Public.{output_of, store_at, Each, Member, source, Recorded}
 use Rattle.chain_model.specs.Chains.{follows_free}
 use Rattle.chain_model.specs.Machine.{ChainState}
 use Rattle.chain_model.proofs.Given.{Given, Comes, breaks, made, part, part_before, culprit, KeptBefore}

@@ -9,14 +9,7 @@ use Rattle.schedule_model.specs.Setup.{owner_of}
 use Rattle.schedule_model.specs.Sequential.{Stop, Broke, Ran_through, loop, Seq, Stopped, Going, with_variables, seq, sequential}
 use Rattle.schedule_model.specs.Machine.{unit_at, merge_at, least}
 use Rattle.schedule_model.specs.Tests.{not_free}
-use Rattle.schedule_model.proofs.Fold.{folded, folded_none, folded_same, folded_merge, folded_union}
-use Rattle.schedule_model.proofs.Law.{commutes, good_unit, merge_unit, merge_amount, owner_below}
-use Rattle.schedule_model.proofs.Sequence.{store_of, output_of, is_going, store_at, GoodLoop, good_loop, good_store, FreeCase, was_over, goes_on, ends, free_case, JoinCase, was_over_join, reduces_join, runs_join, breaks_join, goes_join, halts_join, join_case}
-use Rattle.schedule_model.proofs.Range.{Good}
-use Rattle.schedule_model.proofs.Least.{Each, Member}
-use Rattle.schedule_model.proofs.Facts.{is_reduce, source, source_self, source_reduce}
-use Rattle.schedule_model.proofs.Inv.{Recorded}
-use Rattle.schedule_model.proofs.Stops.{seq_ends, going_down}
+use Rattle.schedule_model.proofs.Public.{folded, folded_none, folded_same, folded_merge, folded_union, commutes, good_unit, merge_unit, merge_amount, owner_below, store_of, output_of, is_going, store_at, GoodLoop, good_loop, good_store, FreeCase, was_over, goes_on, ends, free_case, JoinCase, was_over_join, reduces_join, runs_join, breaks_join, goes_join, halts_join, join_case, Good, Each, Member, is_reduce, source, source_self, source_reduce, Recorded, seq_ends, going_down}
 use Rattle.chain_model.specs.Slicing.{pair_owner}
 use Rattle.chain_model.specs.Machine.{pair_values, ChainState, gathered, merged_over, reduced, spread, looped, hosted, unless_recorded, item_run, ChainAgrees}
 use Rattle.chain_model.proofs.Given.{Given, chains, Comes, makes, owns, part, culprit}

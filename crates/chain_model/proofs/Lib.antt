@@ -1,10 +1,11 @@
-pub mod Chains
-pub mod Given
-pub mod Stores
-pub mod Invariants
-pub mod Elements
-pub mod Ranks
-pub mod Recorded
-pub mod Joins
-pub mod Whole
-pub mod Holding
+mod Chains
+mod Given
+mod Stores
+mod Invariants
+mod Elements
+mod Ranks
+mod Recorded
+mod Joins
+mod Whole
+mod Holding
+pub mod Public

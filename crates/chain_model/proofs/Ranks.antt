@@ -10,12 +10,7 @@ use Rattle.schedule_model.specs.Setup.{owner_of}
 use Rattle.schedule_model.specs.Sequential.{seq}
 use Rattle.schedule_model.specs.Machine.{unit_at}
 use Rattle.schedule_model.specs.Tests.{not_free}
-use Rattle.schedule_model.proofs.Fold.{folded, folded_none, folded_same}
-use Rattle.schedule_model.proofs.Law.{keeps, unreduced, owner_below}
-use Rattle.schedule_model.proofs.Sequence.{output_of, is_going, store_at, FreeCase, was_over, goes_on, ends, free_case}
-use Rattle.schedule_model.proofs.Least.{Each, Member}
-use Rattle.schedule_model.proofs.Facts.{is_reduce, reduce_kind, source, source_self, source_free, source_reduce}
-use Rattle.schedule_model.proofs.Inv.{Recorded}
+use Rattle.schedule_model.proofs.Public.{folded, folded_none, folded_same, keeps, unreduced, owner_below, output_of, is_going, store_at, FreeCase, was_over, goes_on, ends, free_case, Each, Member, is_reduce, reduce_kind, source, source_self, source_free, source_reduce, Recorded}
 use Rattle.chain_model.specs.Chains.{follows_free, begins}
 use Rattle.chain_model.specs.Machine.{pair_values, ChainState, gathered, exchanged, supplied, rank_run, ranks_run, item_run}
 use Rattle.chain_model.proofs.Given.{Given, chains, Comes, makes, breaks, owns, made, part, part_before, culprit, KeptBefore}

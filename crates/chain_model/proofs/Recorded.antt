@@ -7,11 +7,7 @@ use Rattle.schedule_model.specs.Program.{Free, is_free, elements}
 use Rattle.schedule_model.specs.Sequential.{Stop, Stopped, seq}
 use Rattle.schedule_model.specs.Machine.{is_less_element, least}
 use Rattle.schedule_model.specs.Tests.{free_kind}
-use Rattle.schedule_model.proofs.Law.{fault}
-use Rattle.schedule_model.proofs.Sequence.{output_of, is_going, store_at, FreeCase, was_over, goes_on, ends, free_case}
-use Rattle.schedule_model.proofs.Least.{each_more, Beats, least_is, least_none}
-use Rattle.schedule_model.proofs.Inv.{Recorded}
-use Rattle.schedule_model.proofs.Stops.{seq_ends, going_down, ended_at}
+use Rattle.schedule_model.proofs.Public.{fault, output_of, is_going, store_at, FreeCase, was_over, goes_on, ends, free_case, each_more, Beats, least_is, least_none, Recorded, seq_ends, going_down, ended_at}
 use Rattle.chain_model.specs.Machine.{ChainState}
 use Rattle.chain_model.proofs.Given.{Given, Comes, breaks, culprit}
 use Rattle.chain_model.proofs.Invariants.{Before}

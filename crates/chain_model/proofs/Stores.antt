@@ -4,8 +4,7 @@ use Rattle.std.specs.Prelude.{◌==◌}
 use Rattle.std.proofs.lemmas.Bool.{cond_both, cond-true, cond-false, eq-eqb, ne_eqb}
 use Rattle.schedule_model.specs.Cells.{Data, Variable, DatCell, VarCell, Store, InRange}
 use Rattle.schedule_model.specs.Machine.{put1, window_of}
-use Rattle.schedule_model.proofs.Law.{good_unit, good_merge}
-use Rattle.schedule_model.proofs.Range.{Good}
+use Rattle.schedule_model.proofs.Public.{good_unit, good_merge, Good}
 use Rattle.op_num.specs.Reduction.{Reduction}
 use Rattle.chain_model.specs.Slicing.{pair_owner}
 use Rattle.chain_model.specs.Machine.{Holding, value_in, cell_in, replaced, pair_values, left_in, ChainState, gathered, view, merged_over}

@@ -9,11 +9,7 @@ use Rattle.schedule_model.specs.Sequential.{Seq, Stopped, Going, seq, sequential
 use Rattle.schedule_model.specs.Machine.{unit_at}
 use Rattle.schedule_model.specs.Laws.{Lawful}
 use Rattle.schedule_model.specs.Tests.{free_kind}
-use Rattle.schedule_model.proofs.Runs.{Reductions}
-use Rattle.schedule_model.proofs.Law.{good_unit, last, owner_below}
-use Rattle.schedule_model.proofs.Sequence.{store_of, output_of, is_going, store_at}
-use Rattle.schedule_model.proofs.Stops.{going_down}
-use Rattle.schedule_model.proofs.Facts.{is_reduce, reduce_kind, source, source_self}
+use Rattle.schedule_model.proofs.Public.{Reductions, good_unit, last, owner_below, store_of, output_of, is_going, store_at, going_down, is_reduce, reduce_kind, source, source_self}
 use Rattle.chain_model.specs.Slicing.{pair_owner}
 use Rattle.chain_model.specs.Machine.{pair_values, ChainState, chain_start, gathered, supplied, item_run, chain_items, chain_machine, ChainAgrees}
 use Rattle.chain_model.specs.ChainLaws.{AreSlices, IsHeld, KeepsNeeds, sliced}

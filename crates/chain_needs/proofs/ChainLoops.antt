@@ -9,7 +9,7 @@ use Rattle.bound_program.specs.Fits.{Fits, site_at}
 use Rattle.run_model.specs.Programs.{kind_of, loop_of, item_at}
 use Rattle.run_model.specs.Laws.{LoopsAreThere, site_of}
 use Rattle.chain_model.specs.Slices.{loops_from}
-use Rattle.chain_model.proofs.bound_chains.Backwards.{no_loops, next_loop}
+use Rattle.chain_model.proofs.Public.{no_loops, next_loop}
 use Rattle.chain_needs.specs.FreeSites.{free_site_of}
 
 pub free_is : (i : ItemValue) (s : ℕ) → free_site_of i ≡ Some s → i ≡ Free s

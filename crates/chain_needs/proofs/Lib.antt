@@ -1,8 +1,8 @@
-pub mod Leading
-pub mod Nested
-pub mod OwnPairs
-pub mod Agreeing
-pub mod Dropping
-pub mod ChainLoops
-pub mod Following
-pub mod Tallied
+mod Leading
+mod Nested
+mod OwnPairs
+mod Agreeing
+mod Dropping
+mod ChainLoops
+mod Following
+mod Tallied

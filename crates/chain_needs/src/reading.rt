@@ -73,7 +73,7 @@ fn read_by_all(
 }
 
 // The ranks that execute an element.
-#[tactic(auto, unfolding(local_mesh::rank_sets::specs::RankSet::has_at))]
+#[tactic(auto, unfolding(local_mesh::specs::RankSet::has_at))]
 fn ranks_of(executing: &[RankSet], element: u32) -> RankSet
     requires { element < length executing.now }
     ensures { (r : ℕ) → has result r ≡ has_at executing.now element r }

@@ -1,19 +1,19 @@
-pub mod GoingOn
-pub mod HeadRuns
-pub mod Saying
-pub mod Long
-pub mod Stopping
-pub mod Printing
-pub mod StateSaid
-pub mod Printed
-pub mod Shape
-pub mod Agreeing
-pub mod Values
-pub mod TailRuns
-pub mod HeadFits
-pub mod TailFits
-pub mod Constants
-pub mod Placed
-pub mod ItemsMade
-pub mod TailMade
-pub mod Obeying
+mod GoingOn
+mod HeadRuns
+mod Saying
+mod Long
+mod Stopping
+mod Printing
+mod StateSaid
+mod Printed
+mod Shape
+mod Agreeing
+mod Values
+mod TailRuns
+mod HeadFits
+mod TailFits
+mod Constants
+mod Placed
+mod ItemsMade
+mod TailMade
+mod Obeying

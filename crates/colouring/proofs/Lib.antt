@@ -1,14 +1,15 @@
-pub mod Telling
-pub mod Filling
-pub mod Words
-pub mod Bits
-pub mod Numbering
-pub mod Parts
-pub mod Blocks
-pub mod Translating
-pub mod Ordering
-pub mod Reaching
-pub mod Columns
-pub mod Marking
-pub mod Alike
+mod Telling
+mod Filling
+mod Words
+mod Bits
+mod Numbering
+mod Parts
+mod Blocks
+mod Translating
+mod Ordering
+mod Reaching
+mod Columns
+mod Marking
+mod Alike
 mod NoConflicts
+pub mod Public

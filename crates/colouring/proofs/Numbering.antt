@@ -10,13 +10,12 @@ use Rattle.lemmas.specs.Below.{row}
 use Rattle.local_mesh.specs.declared.types.RankMesh.{RankMesh}
 use Rattle.local_mesh.specs.declared.types.LocalSet.{LocalSet}
 use Rattle.local_mesh.specs.LocalMesh.{executed_in, originals_in, AreLocalTargets, IsRankMesh}
-use Rattle.local_mesh.proofs.Closing.{originals_at, executed_at}
-use Rattle.mesh_decl.proofs.FieldReads.{some_in}
+use Rattle.local_mesh.proofs.Public.{originals_at, executed_at, table_more}
+use Rattle.mesh_decl.proofs.Public.{some_in}
 use Rattle.mesh_decl.specs.declared.owners.Owners.{Owners}
 use Rattle.mesh_decl.specs.declared.owners.Perms.{Perms}
 use Rattle.colouring.specs.declared.types.IncArg.{IncArg}
 use Rattle.colouring.specs.Rows.{none}
-use Rattle.local_mesh.proofs.Inverse.{table_more}
 use Rattle.colouring.specs.Colours.{target_of, target_by, Leads, IsArg}
 use Rattle.colouring.specs.Table.{copies_of, IsRankOf, HaveBases, IsTable}
 

@@ -1,4 +1,5 @@
 mod OneFault
-pub mod Within
-pub mod Asking
+mod Within
+mod Asking
 mod Undumped
+pub mod Public

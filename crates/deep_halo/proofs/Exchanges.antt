@@ -8,11 +8,11 @@ use Rattle.mesh_decl.specs.Owners.{AreOwners, owner_of}
 use Rattle.schedule_model.specs.Cells.{Data, Variable, DatCell, VarCell}
 use Rattle.bound_program.specs.Values.{BoundValue}
 use Rattle.run_model.specs.Memory.{has_cell}
-use Rattle.run_model.proofs.Memory.{dat_there}
+use Rattle.run_model.proofs.Public.{dat_there}
 use Rattle.chain_model.specs.Slicing.{pair_owner}
 use Rattle.chain_model.specs.Machine.{ChainState, value_in, exchanged, gathered, pair_values}
 use Rattle.chain_model.specs.Slices.{needs, owns_pair, slicing_of}
-use Rattle.chain_model.proofs.bound_chains.Backwards.{owns_needed}
+use Rattle.chain_model.proofs.Public.{owns_needed}
 use Rattle.deep_halo.specs.Places.{in_block}
 use Rattle.deep_halo.specs.Cells.{Values, BlocksHold}
 use Rattle.deep_halo.specs.declared.chain_ranks.chain_exchange.exchanges.Exchange.TheVariants.{Drop, Take}

@@ -12,7 +12,7 @@ use Rattle.schedule_model.specs.Machine.{unit_at}
 use Rattle.bound_program.specs.Values.{BoundValue}
 use Rattle.run_model.specs.Memory.{has_cell, memory_length}
 use Rattle.run_model.specs.Programs.{first_values}
-use Rattle.run_model.proofs.Memory.{dat_there}
+use Rattle.run_model.proofs.Public.{dat_there}
 use Rattle.run_model.specs.Variables.{of_vars}
 use Rattle.chain_model.specs.Slicing.{pair_owner}
 use Rattle.chain_model.specs.Machine.{value_in, pair_values, chain_start}

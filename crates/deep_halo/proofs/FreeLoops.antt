@@ -18,7 +18,7 @@ use Rattle.run_model.specs.Kernels.{constants}
 use Rattle.run_model.specs.Memory.{has_cell}
 use Rattle.run_model.specs.Laws.{LoopsAreThere}
 use Rattle.run_model.specs.Programs.{item_at, kind_of, loop_of, program_of}
-use Rattle.run_model.proofs.Memory.{has_var}
+use Rattle.run_model.proofs.Public.{has_var}
 use Rattle.run_model.specs.Variables.{of_vars}
 use Rattle.bound_plan.specs.Variables.{reduces_at}
 use Rattle.rank_state.specs.declared.rank_memory.stop.Stop.{Stop as Recorded}

@@ -16,7 +16,7 @@ use Rattle.bound_program.specs.Values.{act_of, told_act_of, closed_act, BoundVal
 use Rattle.bound_program.specs.Fits.{ActFits}
 use Rattle.run_model.specs.Hosts.{act_run}
 use Rattle.run_model.specs.Memory.{Holds, memory_length, var_start, place_of, has_cell}
-use Rattle.run_model.proofs.Memory.{dat_there, inside}
+use Rattle.run_model.proofs.Public.{dat_there, inside}
 use Rattle.run_model.specs.Variables.{of_vars}
 use Rattle.run_model.specs.Acts.{ActEnds}
 use Rattle.deep_halo.specs.Places.{in_block, all_cells}

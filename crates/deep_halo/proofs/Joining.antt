@@ -21,13 +21,13 @@ use Rattle.bound_program.specs.Fits.{Fits}
 use Rattle.run_model.specs.Laws.{LoopsAreThere}
 use Rattle.run_model.specs.Memory.{has_cell}
 use Rattle.run_model.specs.Programs.{item_at, kind_of, program_of}
-use Rattle.run_model.proofs.Memory.{dat_there}
+use Rattle.run_model.proofs.Public.{dat_there}
 use Rattle.rank_state.specs.declared.rank_memory.stop.Stop.{Stop}
 use Rattle.rank_state.specs.Stops.{stop_in, stop_of}
 use Rattle.chain_model.specs.Slicing.{pair_owner}
 use Rattle.chain_model.specs.Machine.{ChainState, Holding, value_in, pair_values, gathered, spread, looped, hosted, reduced, unless_recorded, item_run}
 use Rattle.chain_model.specs.Slices.{owns_pair, slicing_of}
-use Rattle.chain_model.proofs.bound_chains.Backwards.{owns_needed}
+use Rattle.chain_model.proofs.Public.{owns_needed}
 use Rattle.deep_halo.specs.Places.{in_block, stands_at}
 use Rattle.deep_halo.specs.Running.{StoresStand}
 use Rattle.deep_halo.specs.Hosts.{HostEnds}

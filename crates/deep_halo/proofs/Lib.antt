@@ -1,14 +1,14 @@
-pub mod ConstantCounts
-pub mod Counts
-pub mod Exchanges
-pub mod FirstStates
-pub mod FreeLoops
-pub mod HostVariables
-pub mod Joining
-pub mod Machine
-pub mod Ordering
-pub mod Outcomes
-pub mod Reduces
-pub mod Texts
-pub mod Units
-pub mod Values
+mod ConstantCounts
+mod Counts
+mod Exchanges
+mod FirstStates
+mod FreeLoops
+mod HostVariables
+mod Joining
+mod Machine
+mod Ordering
+mod Outcomes
+mod Reduces
+mod Texts
+mod Units
+mod Values

@@ -16,7 +16,7 @@ use Rattle.run_model.specs.Memory.{has_cell}
 use Rattle.run_model.specs.Kernels.{constants, constant_values, element_run}
 use Rattle.run_model.specs.Constants.{ConstantsAreNumbered, no_constant}
 use Rattle.run_model.specs.Laws.{WindowsAreReached}
-use Rattle.run_model.proofs.Memory.{has_var}
+use Rattle.run_model.proofs.Public.{has_var}
 use Rattle.rank_state.specs.declared.rank_memory.stop.Stop.{Stop}
 use Rattle.rank_state.specs.Stops.{stop_in}
 use Rattle.deep_halo.specs.Placed.{HoldsWindows, LeavesPlaced, EndsPlaced}

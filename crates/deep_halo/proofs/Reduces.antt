@@ -14,10 +14,10 @@ use Rattle.run_model.specs.Memory.{has_cell}
 use Rattle.run_model.specs.Arguments.{var_width}
 use Rattle.run_model.specs.Programs.{item_at, kind_of, loop_of}
 use Rattle.run_model.specs.Laws.{LoopsAreThere}
-use Rattle.run_model.proofs.Memory.{var_there}
+use Rattle.run_model.proofs.Public.{var_there}
 use Rattle.run_model.specs.Variables.{of_vars}
 use Rattle.bound_plan.specs.Variables.{reduced_by, reduces_at}
-use Rattle.bound_plan.proofs.Trace.{reduce_after, first_item}
+use Rattle.bound_plan.proofs.Public.{reduce_after, first_item}
 use Rattle.rank_state.specs.declared.rank_memory.stop.Stop.{Stop}
 use Rattle.chain_model.specs.Machine.{ChainState, merged_over, reduced}
 use Rattle.chain_model.specs.Slices.{slicing_of}

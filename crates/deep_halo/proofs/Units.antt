@@ -12,9 +12,7 @@ use Rattle.bound_program.specs.Fits.{Fits, site_at}
 use Rattle.run_model.specs.Laws.{LoopsAreThere}
 use Rattle.run_model.specs.Programs.{item_at, kind_of, loop_of}
 use Rattle.bound_plan.specs.Variables.{reduces_at}
-use Rattle.bound_plan.proofs.Globals.{reduces_is}
-use Rattle.bound_plan.proofs.Touched.{merges}
-use Rattle.bound_plan.proofs.Trace.{reduce_next}
+use Rattle.bound_plan.proofs.Public.{reduces_is, merges, reduce_next}
 use Rattle.chain_model.specs.Machine.{ChainState}
 use Rattle.deep_halo.specs.Stands.{free_loop, recent}
 

@@ -10,7 +10,7 @@ use Rattle.mesh_decl.specs.Owners.{owner_of}
 use Rattle.schedule_model.specs.Cells.{Cell, Data, Store}
 use Rattle.bound_program.specs.Values.{BoundValue}
 use Rattle.run_model.specs.Windows.{numbers, Element, cell_in}
-use Rattle.run_model.proofs.Memory.{has_dat}
+use Rattle.run_model.proofs.Public.{has_dat}
 use Rattle.deep_halo.specs.Places.{in_block}
 use Rattle.deep_halo.proofs.chain_memory.chain_stores.Writing.{block_follow}
 use Rattle.deep_halo.specs.Orders.{OwnersStand}

@@ -1,1 +1,1 @@
-pub mod Finding
+mod Finding

@@ -1,3 +1,3 @@
-pub mod Repeating
-pub mod Seeking
-pub mod Wholes
+mod Repeating
+mod Seeking
+mod Wholes

@@ -17,7 +17,7 @@ use Rattle.command_words.specs.declared.answer_lines.refusals.Halt.{Halt}
 use Rattle.command_words.specs.Halts.{StopsWhere}
 use Rattle.job_inputs.specs.Inputs.{IsBoundOver, IsBoundIn}
 use Rattle.job_inputs.specs.Chains.{Never, TextOver, HaltsOver}
-use Rattle.command_words.proofs.answer_lines.Halts.{stops_weaker}
+use Rattle.command_words.proofs.Public.{stops_weaker}
 use Rattle.job_inputs.proofs.Chained.{halts_weaker, halts_on, stops_on}
 
 -- ---- files

@@ -1,11 +1,12 @@
-pub mod Chained
-pub mod Reading
-pub mod BoundFiles
-pub mod MeshText
-pub mod Unowned
-pub mod Unread
-pub mod Sites
-pub mod Known
-pub mod Jobs
-pub mod Lent
+mod Chained
+mod Reading
+mod BoundFiles
+mod MeshText
+mod Unowned
+mod Unread
+mod Sites
+mod Known
+mod Jobs
+mod Lent
 mod Stretches
+pub mod Public

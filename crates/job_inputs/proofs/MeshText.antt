@@ -10,7 +10,7 @@ use Rattle.answers.specs.Judgements.{EntriesAre, BoundIs, AccessesAre}
 use Rattle.command_words.specs.declared.answer_lines.refusals.Halt.{Halt}
 use Rattle.command_words.specs.Halts.{StopsWhere}
 use Rattle.job_inputs.specs.Chains.{Never, TextOver}
-use Rattle.command_words.proofs.answer_lines.Halts.{stops_weaker}
+use Rattle.command_words.proofs.Public.{stops_weaker}
 
 module _ (p : ProgramTree) (types : Resolved) (text : List ℕ) where
   abbrev Refuses : Refusal → Type 0

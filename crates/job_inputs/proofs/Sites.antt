@@ -24,7 +24,7 @@ use Rattle.job_inputs.specs.declared.known_uses.ArgUse.{ArgUse}
 use Rattle.job_inputs.specs.Inputs.{IsAccessRefusal}
 use Rattle.job_inputs.specs.Known.{use_of, AreObeyed}
 use Rattle.job_inputs.proofs.Known.{known_obeyed, noted_obeyed}
-use Rattle.command_words.proofs.answer_lines.Halts.{stops_weaker}
+use Rattle.command_words.proofs.Public.{stops_weaker}
 
 -- ---- the kernel of a loop
 

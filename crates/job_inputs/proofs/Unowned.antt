@@ -11,7 +11,7 @@ use Rattle.command_words.specs.declared.answer_lines.refusals.Failure.TheVariant
 use Rattle.command_words.specs.declared.answer_lines.refusals.Halt.{Halt}
 use Rattle.command_words.specs.declared.answer_lines.refusals.Halt.TheVariants.{Failed}
 use Rattle.command_words.specs.Halts.{StopsWhere}
-use Rattle.command_words.proofs.answer_lines.Halts.{stops_weaker}
+use Rattle.command_words.proofs.Public.{stops_weaker}
 
 -- a refusal that says why owners aren't there is one of theirs
 pub owners_refused_by : (ranks : ℕ) (b : BoundValue) (parts : Parts) (e : OwnersRefusal) (h : Halt)

@@ -15,7 +15,7 @@ use Rattle.answers.specs.Judgements.{IsUnread, TreeIs}
 use Rattle.answers.specs.Said.{SaysLex, SaysSource}
 use Rattle.command_words.specs.declared.answer_lines.refusals.Halt.{Halt}
 use Rattle.command_words.specs.Halts.{StopsWhere}
-use Rattle.command_words.proofs.answer_lines.Halts.{stops_weaker}
+use Rattle.command_words.proofs.Public.{stops_weaker}
 
 -- what the reader's refusal says is a refusal of the source
 said : (bytes : List ℕ) (e : SourceRefusal) (h : Halt) → IsUnread bytes e → StopsWhere (SaysSource e) h → StopsWhere (λ r. TreeIs bytes (Err r)) h

@@ -1,11 +1,11 @@
-pub mod Blocks
-pub mod Effects
-pub mod Ends
-pub mod Kernels
-pub mod Patch
-pub mod Rows
-pub mod Runs
-pub mod Safe
-pub mod Steps
-pub mod Values
-pub mod Within
+mod Blocks
+mod Effects
+mod Ends
+mod Kernels
+mod Patch
+mod Rows
+mod Runs
+mod Safe
+mod Steps
+mod Values
+mod Within

@@ -4,7 +4,7 @@ use Rattle.std.specs.Prelude.{slice_index_or, neg_ℤ}
 use Rattle.std.proofs.lemmas.Int.{int_wrap-add_left, int_wrap-add_right, ints}
 use Rattle.std.specs.Int.{int_wrap, w32}
 use Rattle.op_num.specs.Reduction.{Reduction, Add, merged, unit_of}
-use Rattle.op_num.proofs.reductions.Laws.{commuting}
+use Rattle.op_num.proofs.Public.{commuting}
 use Rattle.kernel_model.specs.Numbers.{sum, difference}
 use Rattle.kernel_model.specs.Meaning.{Store, Target, target_at, read_arg, store_arg}
 use Rattle.op_num.specs.Access.{OpRead, OpWrite, OpRw, OpReduce}

@@ -1,25 +1,26 @@
-pub mod Stores
-pub mod Locals
-pub mod Reached
-pub mod Paths
-pub mod Tokens
-pub mod Agreement
-pub mod Static
-pub mod SameValues
-pub mod SameStores
-pub mod SameAssignments
-pub mod Law
-pub mod ReadOnly
-pub mod StoredThrough
-pub mod Copies
-pub mod Examples
-pub mod Ranges
-pub mod BrokenRules
-pub mod Refused
-pub mod Firsts
-pub mod Covers
-pub mod Steps
-pub mod Finding
-pub mod Found
-pub mod TreeMeaning
-pub mod TreeWalk
+mod Stores
+mod Locals
+mod Reached
+mod Paths
+mod Tokens
+mod Agreement
+mod Static
+mod SameValues
+mod SameStores
+mod SameAssignments
+mod Law
+mod ReadOnly
+mod StoredThrough
+mod Copies
+mod Examples
+mod Ranges
+mod BrokenRules
+mod Refused
+mod Firsts
+mod Covers
+mod Steps
+mod Finding
+mod Found
+mod TreeMeaning
+mod TreeWalk
+pub mod Public

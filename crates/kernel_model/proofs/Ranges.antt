@@ -19,7 +19,7 @@ use Rattle.c_tree.specs.declared.expressions.BinaryOp.{BinaryOp}
 use Rattle.c_tree.specs.declared.expressions.BinaryOp.TheVariants as binary
 use Rattle.c_tree.specs.declared.expressions.UnaryOp.{UnaryOp}
 use Rattle.c_tree.specs.declared.expressions.UnaryOp.TheVariants as unary
-use Rattle.op_num.proofs.reductions.Laws.{commuting}
+use Rattle.op_num.proofs.Public.{commuting}
 use Rattle.op_num.specs.Wrapping.{remainder}
 use Rattle.kernel_model.specs.Resolved.{ExprWithin, StmtWithin, RowWithin}
 use Rattle.kernel_model.specs.Numbers.{Value, fault, truth, is_zero, is_shift, is_settled, apply, apply_unary, magnitude, reduction_of, unless_zero, if_shift, sum, difference, product, quotient, rest, shifted_left, shifted_right, and_bits, or_bits, xor_bits, complement, negated}

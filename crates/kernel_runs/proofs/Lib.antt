@@ -1,1 +1,2 @@
-pub mod OneArray
+mod OneArray
+pub mod Public

@@ -5,7 +5,7 @@ use Rattle.std.proofs.lemmas.List.{get_or-map}
 use Rattle.mesh_decl.specs.declared.owners.Owners.{Owners}
 use Rattle.mesh_decl.specs.declared.owners.Perms.{Perms}
 use Rattle.mesh_decl.specs.Mesh.{MeshValue, IsMapAt, set_count, map_count, set_size, map_from, map_to, map_dim, target}
-use Rattle.mesh_decl.proofs.FieldReads.{some_in}
+use Rattle.mesh_decl.proofs.Public.{some_in}
 use Rattle.mesh_decl.specs.Owners.{ArePerms, perm_in}
 use Rattle.local_mesh.specs.Halo.{owns, imports_execute, imports_nonexecute, has_copy, executes}
 use Rattle.local_mesh.specs.declared.types.LocalSet.{LocalSet}

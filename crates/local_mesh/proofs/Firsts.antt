@@ -6,7 +6,7 @@ use Rattle.mesh_decl.specs.declared.owners.Owners.{Owners}
 use Rattle.mesh_decl.specs.declared.owners.Perms.{Perms}
 use Rattle.mesh_decl.specs.Mesh.{MeshValue, set_count, set_size}
 use Rattle.mesh_decl.specs.Owners.{ArePerms, perm_in}
-use Rattle.mesh_decl.proofs.FieldReads.{some_in}
+use Rattle.mesh_decl.proofs.Public.{some_in}
 use Rattle.lemmas.proofs.Below.{count_lt}
 use Rattle.local_mesh.specs.Halo.{owns, executes, imports_execute, imports_nonexecute, is_core}
 use Rattle.local_mesh.specs.declared.types.LocalSet.{LocalSet}

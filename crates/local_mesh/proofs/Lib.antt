@@ -1,19 +1,20 @@
-pub mod Inverse
-pub mod Stands
-pub mod Adding
-pub mod Numbered
-pub mod KeptOrder
-pub mod Joining
-pub mod Closing
-pub mod Growing
-pub mod Grouping
-pub mod Looking
-pub mod Standing
-pub mod Firsts
-pub mod LocalTargets
-pub mod OneMesh
-pub mod AtOwners
-pub mod Held
-pub mod OneRank
-pub mod MadeMesh
-pub mod Stretches
+mod Inverse
+mod Stands
+mod Adding
+mod Numbered
+mod KeptOrder
+mod Joining
+mod Closing
+mod Growing
+mod Grouping
+mod Looking
+mod Standing
+mod Firsts
+mod LocalTargets
+mod OneMesh
+mod AtOwners
+mod Held
+mod OneRank
+mod MadeMesh
+mod Stretches
+pub mod Public

@@ -6,7 +6,7 @@ use Rattle.mesh_decl.specs.declared.owners.Owners.{Owners}
 use Rattle.mesh_decl.specs.declared.owners.Perms.{Perms}
 use Rattle.mesh_decl.specs.Mesh.{MeshValue, set_count, map_count, dat_count, set_size, map_from, map_to, map_dim, target, dat_set, IsInRange}
 use Rattle.mesh_decl.specs.Owners.{ArePerms}
-use Rattle.mesh_decl.proofs.FieldReads.{some_in}
+use Rattle.mesh_decl.proofs.Public.{some_in}
 use Rattle.lemmas.specs.Below.{row}
 use Rattle.local_mesh.specs.Halo.{owns, imports_execute, imports_nonexecute, is_core}
 use Rattle.local_mesh.specs.HaloValues.{lists_of}

@@ -26,7 +26,7 @@ use Rattle.loop_bind.specs.Arguments.{slot_constant, is_reserved, is_wrong_set, 
 use Rattle.bound_program.specs.Fits.{ViaFits, GlobalAccess}
 use Rattle.loop_bind.proofs.FitsState.{at, MeaningFits, HasDim, HasValues, ExternFits, IsOwn, Lawful}
 use Rattle.loop_bind.proofs.FitsVars.{program}
-use Rattle.main_declarations.proofs.Shapes.{Below, never}
+use Rattle.main_declarations.proofs.Public.{Below, never}
 use Rattle.loop_bind.proofs.FitsExterns.{found_entry, Is}
 use Rattle.lemmas.proofs.Numbers.{equal_from_not}
 

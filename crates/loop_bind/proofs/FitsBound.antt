@@ -22,7 +22,7 @@ use Rattle.loop_bind.specs.Bound.{text, happens, finished, unrolled_text, bound}
 use Rattle.bound_program.specs.Fits.{SiteFits, ItemsFit, EndsWithHost}
 use Rattle.loop_bind.specs.Sources.{TopIsRead, HostsAreRead, HaveNumbers, TopsTake}
 use Rattle.loop_bind.proofs.FitsTargets.{AllAssignVariables, MainAssignsVariables}
-use Rattle.main_declarations.proofs.Judged.{Gives, gives_then, gives_any}
+use Rattle.main_declarations.proofs.Public.{Gives, gives_then, gives_any}
 use Rattle.loop_bind.proofs.FitsState.{NameFits, NameIsOwn, ExternFits, HasDim, HasMapDim, so_far, Lawful}
 use Rattle.loop_bind.proofs.FitsVars.{site_more}
 use Rattle.loop_bind.proofs.FitsFile.{TopLawful, tops_are}

@@ -17,7 +17,7 @@ use Rattle.main_declarations.specs.SoFar.{Declared, first_cell}
 use Rattle.main_declarations.specs.Declarations.{place_found, type_found}
 use Rattle.main_declarations.specs.Variables.{file_cells, constant_found, with_constant, after_constant, constant_decl_found, judged_constant}
 use Rattle.bound_program.specs.Fits.{SiteFits}
-use Rattle.main_declarations.proofs.Judged.{Gives, gives_unless, left_nil}
+use Rattle.main_declarations.proofs.Public.{Gives, gives_unless, left_nil}
 use Rattle.loop_bind.proofs.FitsState.{at, cells_in, VarsGrow, Grows, grows-self, names_more, ExternFits, extern_more, so_far, Lawful}
 use Rattle.loop_bind.proofs.FitsMesh.{no_site_yet}
 use Rattle.loop_bind.proofs.FitsMeshWalk.{Goes}

@@ -30,7 +30,7 @@ use Rattle.main_declarations.specs.Variables.{with_fixed, with_fixed_later, with
 use Rattle.loop_bind.specs.Arguments.{after_globals, loop_found, site, judged_loop}
 use Rattle.loop_bind.specs.Text.{nested, turning, line_found, declares, judged_call, opened, followed_by, ended, with_counter, judged_bounds, judged_host, judged_hosts}
 use Rattle.loop_bind.specs.FileVariables.{FileVariable, NamesApart, call_names, constant_names, all_constant_names}
-use Rattle.main_declarations.proofs.Judged.{Gives, gives_then, gives_unless, gives_any}
+use Rattle.main_declarations.proofs.Public.{Gives, gives_then, gives_unless, gives_any}
 use Rattle.loop_bind.proofs.FitsState.{known-fits}
 use Rattle.loop_bind.proofs.FitsFileConsts.{EntryNamed}
 use Rattle.loop_bind.proofs.FitsTags.{Tagged}

@@ -19,7 +19,7 @@ use Rattle.bound_program.specs.Fits.{UsesConstants}
 use Rattle.loop_bind.specs.Sources.{HasNumbers, IsRead, TopIsRead, HostsAreRead}
 use Rattle.loop_bind.specs.FileVariables.{FileVariable, file_variables, NamesApart, AreConstants, AreFound, AreOfOne}
 use Rattle.loop_bind.specs.ResolvedSources.{IsResolvedSource}
-use Rattle.main_declarations.proofs.Shapes.{never}
+use Rattle.main_declarations.proofs.Public.{never}
 
 -- int x; const int c = 5; int a[2]; .. x = 1; op_decl_const(1, "int", &x); op_printf("%d", c);
 

@@ -29,7 +29,7 @@ use Rattle.main_declarations.specs.Meanings.{count_of}
 use Rattle.main_declarations.specs.Variables.{with_file_value, judged_file_declr, judged_file_declrs}
 use Rattle.main_declarations.specs.File.{judged_extern, judged_array, judged_top, judged_tops}
 use Rattle.loop_bind.specs.Sources.{HasNumbers, IsRead, TopIsRead, HasNumber, HaveNumbers, TopsTake}
-use Rattle.main_declarations.proofs.Judged.{Gives, gives_then, gives_unless}
+use Rattle.main_declarations.proofs.Public.{Gives, gives_then, gives_unless}
 use Rattle.kernel_model.specs.Operators.{IsNumber}
 use Rattle.loop_bind.proofs.FitsValues.{Num, no_nums, Within, value_num}
 use Rattle.loop_bind.proofs.FitsState.{MeaningFits, Lawful}

@@ -22,7 +22,7 @@ use Rattle.main_declarations.specs.Expressions.{judged_value}
 use Rattle.main_declarations.specs.Variables.{with_file_value, judged_file_declr, judged_file_declrs}
 use Rattle.main_declarations.specs.File.{judged_extern, judged_array, judged_top, judged_tops}
 use Rattle.loop_bind.specs.FileVariables.{FileVariable, declr_variable, declrs_variables, top_variables, file_variables}
-use Rattle.main_declarations.proofs.Judged.{Gives, gives_then, gives_any}
+use Rattle.main_declarations.proofs.Public.{Gives, gives_then, gives_any}
 use Rattle.loop_bind.proofs.FitsState.{known-fits}
 use Rattle.loop_bind.proofs.FitsTags.{no_variable, Tag, Tagged, tagged_next, HasName, name_more}
 

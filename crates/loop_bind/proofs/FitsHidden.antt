@@ -27,8 +27,7 @@ use Rattle.loop_bind.specs.Text.{nested, turning, judged_call, opened, followed_
 use Rattle.loop_bind.specs.Assigned.{Known, found, knows, after_host}
 use Rattle.loop_bind.specs.FileVariables.{FileVariable, NamesApart, constant_names, is_constant, Begins, AreConstants}
 use Rattle.loop_bind.specs.Hidden.{CallNamesNoOwn, NamesNoOwn, AllNameNoOwn}
-use Rattle.main_declarations.proofs.Judged.{Gives, gives_then, gives_unless, left_nil, right_nil, not_if, gives_any}
-use Rattle.main_declarations.proofs.Shapes.{never}
+use Rattle.main_declarations.proofs.Public.{Gives, gives_then, gives_unless, left_nil, right_nil, not_if, gives_any, never}
 use Rattle.loop_bind.proofs.FitsScopes.{Both, same_found}
 use Rattle.loop_bind.proofs.FitsScopeWalk.{Scoped, At, counter_scoped, host_scoped}
 use Rattle.loop_bind.proofs.FitsMainConsts.{OfMain, MainConsts}

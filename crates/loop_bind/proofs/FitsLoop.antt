@@ -40,10 +40,9 @@ use Rattle.main_declarations.specs.Variables.{glob_token, ampersand_found}
 use Rattle.loop_bind.specs.Arguments.{access_of, global_of, is_same, is_twice, is_reserved, is_wrong_set, is_wrong_index, is_wrong_dim, dim_of, map_found, global_found, reach_found, arg_found, with_earlier, args_found, kernel_found, kernel_number, via_of, var_number, arg_of, site, loop_found, judged_loop, after_globals}
 use Rattle.bound_program.specs.Classes.{is_read}
 use Rattle.bound_program.specs.Fits.{TakesArgs, AreApart, AllApart, ArgFits, SiteFits}
-use Rattle.main_declarations.proofs.Judged.{Gives, gives_unless, left_nil, right_nil, not_over, not_if}
+use Rattle.main_declarations.proofs.Public.{Gives, gives_unless, left_nil, right_nil, not_over, not_if, Below, never, known_below}
 use Rattle.loop_bind.proofs.FitsState.{at, MeaningFits, IsOwn, Grows, grows-trans, vars-self, so_far, Lawful, means_fits}
 use Rattle.loop_bind.proofs.FitsVars.{VarsKept, site_more}
-use Rattle.main_declarations.proofs.Shapes.{Below, never, known_below}
 use Rattle.loop_bind.proofs.FitsMesh.{set_below, map_below, dat_below}
 use Rattle.loop_bind.proofs.FitsMeshWalk.{Goes}
 use Rattle.loop_bind.proofs.FitsExterns.{IsThere, AllThere, all-add}

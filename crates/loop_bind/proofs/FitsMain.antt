@@ -23,7 +23,7 @@ use Rattle.main_declarations.specs.SoFar.{Declared, Walked, does, behind, with_v
 use Rattle.main_declarations.specs.Meanings.{count_of}
 use Rattle.main_declarations.specs.Variables.{with_fixed, with_fixed_later, with_turning, const_at, with_changing, initializer, judged_declr, judged_declrs}
 use Rattle.loop_bind.specs.Sources.{HasNumbers, IsRead}
-use Rattle.main_declarations.proofs.Judged.{Gives, gives_then}
+use Rattle.main_declarations.proofs.Public.{Gives, gives_then}
 use Rattle.loop_bind.proofs.FitsValues.{Num, Within, within_more}
 use Rattle.loop_bind.proofs.FitsState.{at, MeaningFits, IsOwn, Grows, grows-self, grows-trans, Lawful}
 use Rattle.loop_bind.proofs.FitsVars.{lawful-own, lawful-var, grows-var, next-fits}

@@ -26,9 +26,8 @@ use Rattle.main_declarations.specs.Declarations.{place_found, type_found}
 use Rattle.main_declarations.specs.Variables.{file_cells, constant_found, after_constant, constant_decl_found, judged_constant}
 use Rattle.loop_bind.specs.Arguments.{extern_var, with_extern, after_global, after_globals}
 use Rattle.loop_bind.specs.FileVariables.{FileVariable, NamesApart}
-use Rattle.main_declarations.proofs.Judged.{Gives, gives_unless, left_nil, right_nil, not_if}
+use Rattle.main_declarations.proofs.Public.{Gives, gives_unless, left_nil, right_nil, not_if, never}
 use Rattle.loop_bind.proofs.FitsState.{known-fits}
-use Rattle.main_declarations.proofs.Shapes.{never}
 use Rattle.loop_bind.proofs.FitsTags.{Tagged, tagged_push, tagged_constant, HasName}
 use Rattle.loop_bind.proofs.FitsFileConsts.{EntryNamed}
 

@@ -22,8 +22,7 @@ use Rattle.bound_program.specs.Limits.{max_size, max_dim}
 use Rattle.main_declarations.specs.SoFar.{Declared}
 use Rattle.main_declarations.specs.Meanings.{set_of, map_of, dat_of, or_zero, or_none}
 use Rattle.main_declarations.specs.Declarations.{awaited, first_stray, place_found, data_found, stray_found, target_found, cells_found, value_found, size_found, size_of}
-use Rattle.main_declarations.proofs.Judged.{left_nil, not_in, not_over, not_if, IsNil}
-use Rattle.main_declarations.proofs.Shapes.{Below, never, is_dim-true, awaited-is, data_is}
+use Rattle.main_declarations.proofs.Public.{left_nil, not_in, not_over, not_if, IsNil, Below, never, is_dim-true, awaited-is, data_is}
 use Rattle.loop_bind.proofs.FitsState.{MeaningFits}
 
 -- ---- numbers of what names stand for

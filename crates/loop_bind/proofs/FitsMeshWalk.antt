@@ -13,7 +13,7 @@ use Rattle.mesh_decl.specs.declared.decl.SetDecl.{SetDecl}
 use Rattle.mesh_decl.specs.declared.decl.MapDecl.{MapDecl}
 use Rattle.mesh_decl.specs.declared.decl.DatDecl.{DatDecl}
 use Rattle.mesh_decl.specs.Mesh.{set_count, map_count, dat_count, IsMap, IsDat}
-use Rattle.mesh_decl.proofs.Declared as mesh
+use Rattle.mesh_decl.proofs.Public as mesh
 use Rattle.mesh_decl.specs.Spelling.{Named}
 use Rattle.bound_program.specs.declared.refusals.refusals.BindRefusal.TheVariants as refusal
 use Rattle.bound_program.specs.declared.refusals.refusals.Counted.TheVariants as counted
@@ -28,9 +28,8 @@ use Rattle.main_declarations.specs.SoFar.{Declared}
 use Rattle.main_declarations.specs.Meanings.{set_of, or_zero, or_none, count_of, array_of}
 use Rattle.main_declarations.specs.Declarations.{awaited, with_set, with_map, with_dat, place_found, set_found, dim_found, type_found, data_found, target_found, cells_found, size_found, size_of, set_decl_found, judged_set, map_decl_found, judged_map, dat_decl_found, judged_dat}
 use Rattle.bound_program.specs.Fits.{SiteFits}
-use Rattle.main_declarations.proofs.Judged.{Gives, gives_unless, left_nil, right_nil, not_over, not_if}
+use Rattle.main_declarations.proofs.Public.{Gives, gives_unless, left_nil, right_nil, not_over, not_if, Below, dim_fits}
 use Rattle.loop_bind.proofs.FitsState.{vars-self, NameFits, Grows, names_more, known-fits, NameIsOwn, HasDim, HasMapDim, so_far, Lawful, means_fits}
-use Rattle.main_declarations.proofs.Shapes.{Below, dim_fits}
 use Rattle.loop_bind.proofs.FitsMesh.{set_below, no_site_yet, set_size_below, map_is, dat_is}
 
 -- lawful still, and nothing is lost

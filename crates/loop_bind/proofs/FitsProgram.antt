@@ -22,7 +22,7 @@ use Rattle.loop_bind.specs.Sources.{HaveNumbers}
 use Rattle.loop_bind.specs.Resolvable.{BoundProgramsFit, BoundMapsAreNarrow}
 use Rattle.name_resolution.specs.Programs.{named_in}
 use Rattle.loop_bind.proofs.FitsHidden.{hosts_unhidden, are_same}
-use Rattle.main_declarations.proofs.Judged.{Gives, gives_then}
+use Rattle.main_declarations.proofs.Public.{Gives, gives_then}
 use Rattle.loop_bind.proofs.FitsState.{HasMapDim, so_far}
 use Rattle.loop_bind.proofs.FitsTargets.{AllAssignVariables, MainAssignsVariables}
 use Rattle.loop_bind.proofs.FitsScopeWalk.{Scoped, tops_scoped, hosts_assign}

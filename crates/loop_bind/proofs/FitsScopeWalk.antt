@@ -32,7 +32,7 @@ use Rattle.loop_bind.specs.Arguments.{with_extern, extern_var, after_global, aft
 use Rattle.loop_bind.specs.Text.{nested, turning, target_name, line_found, declares, judged_call, opened, followed_by, ended, with_counter, judged_bounds, judged_host, judged_hosts}
 use Rattle.main_declarations.specs.File.{judged_extern, judged_array, judged_top, judged_tops}
 use Rattle.loop_bind.specs.Assigned.{Known, knows, after_declr, after_declrs, after_top, after_tops, after_call, after_host, after_hosts, place_name, CanBeAssigned, Assigns, AllAssign}
-use Rattle.main_declarations.proofs.Judged.{Gives, gives_then, gives_unless, gives_any}
+use Rattle.main_declarations.proofs.Public.{Gives, gives_then, gives_unless, gives_any}
 use Rattle.loop_bind.proofs.FitsTargets.{IsVariable, Behind, AssignsVariables, AllAssignVariables}
 use Rattle.loop_bind.proofs.FitsScopes.{Kind, Same, same_found, same_known, same_length, same_take, assigned_is}
 

@@ -30,12 +30,11 @@ use Rattle.loop_bind.specs.Arguments.{judged_loop}
 use Rattle.loop_bind.specs.Text.{nested, turning, target_name, target_index, target_var, assignment, line_found, declares, judged_call, opened, followed_by, ended, with_counter, judged_bounds, judged_host, judged_hosts}
 use Rattle.loop_bind.specs.Sources.{HasNumbers, PlaceIsRead, CallIsRead, HostIsRead, HostsAreRead}
 use Rattle.loop_bind.proofs.FitsTargets.{IsVariable, Behind, AssignsVariables, AllAssignVariables}
-use Rattle.main_declarations.proofs.Judged.{Gives, gives_then, gives_unless, not_if}
+use Rattle.main_declarations.proofs.Public.{Gives, gives_then, gives_unless, not_if, never, known_below}
 use Rattle.loop_bind.proofs.FitsValues.{Within, within_more, zero_is_num}
 use Rattle.loop_bind.proofs.FitsState.{at, MeaningFits, NameFits, NameIsOwn, Grows, Lawful, means_fits}
 use Rattle.loop_bind.proofs.FitsReads.{resolved_within}
 use Rattle.loop_bind.proofs.FitsFile.{static_within}
-use Rattle.main_declarations.proofs.Shapes.{never, known_below}
 use Rattle.loop_bind.proofs.FitsMesh.{dat_below}
 use Rattle.loop_bind.proofs.FitsMeshWalk.{Goes, set_is_lawful, map_is_lawful, dat_is_lawful}
 use Rattle.loop_bind.proofs.FitsConst.{constant_is_lawful}

@@ -19,7 +19,7 @@ use Rattle.bound_program.specs.Trace.{Event, Turn, Does, Tells, Stops, Later, no
 use Rattle.bound_program.specs.Limited.{ToldValue, UnrolledValue, before, item, told, unrolled}
 use Rattle.bound_program.specs.Classes.{reduces}
 use Rattle.bound_program.specs.Fits.{site_at, all_cells, HostWithin, IndexWithin, ActFits, due, ItemsFit, EndsWithHost}
-use Rattle.main_declarations.proofs.Judged.{Gives}
+use Rattle.main_declarations.proofs.Public.{Gives}
 use Rattle.kernel_model.specs.Operators.{IsNumber}
 use Rattle.loop_bind.proofs.FitsValues.{Num, Nums, no_nums, more_nums, Within, value_num, closed_within}
 use Rattle.loop_bind.proofs.FitsMain.{AllWithin, SomeWithin, IsOne, TellsOne, StepActFits, StepFits, StepsFit}

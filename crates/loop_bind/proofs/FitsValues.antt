@@ -7,7 +7,7 @@ use Rattle.c_tree.specs.declared.expressions.UnaryOp.{UnaryOp}
 use Rattle.kernel_model.specs.declared.types.faults.KernelFault.{KernelFault}
 use Rattle.kernel_model.specs.Numbers.{Value, truth, is_zero, is_settled, apply, apply_unary, magnitude}
 use Rattle.kernel_model.specs.Operators.{IsNumber}
-use Rattle.kernel_model.proofs.Ranges.{operators_stay_in_range}
+use Rattle.kernel_model.proofs.Public.{operators_stay_in_range}
 use Rattle.kernel_model.specs.Meaning.{and_then, index_in}
 use Rattle.kernel_model.specs.View.{RExprTree, Number, Scalar, Constant, Arg, Local, Const, Unary, Binary, Choice, Paren, Extremum, Absolute}
 use Rattle.bound_program.specs.HostExpr.{value, closed}

@@ -30,8 +30,7 @@ use Rattle.main_declarations.specs.Meanings.{set_of, or_zero, count_of, values_n
 use Rattle.main_declarations.specs.Declarations.{set_found, type_found}
 use Rattle.main_declarations.specs.Variables.{glob_token, ampersand_found}
 use Rattle.loop_bind.specs.Arguments.{access_of, slot_constant, global_of, extern_var, with_extern, after_global, after_globals, is_twice, is_reserved, is_wrong_dim, global_found, arg_found, with_earlier, args_found, kernel_found, var_number, arg_of, site, loop_found, judged_loop}
-use Rattle.main_declarations.proofs.Judged.{Gives, gives_unless, left_nil, right_nil, not_if}
-use Rattle.main_declarations.proofs.Shapes.{never}
+use Rattle.main_declarations.proofs.Public.{Gives, gives_unless, left_nil, right_nil, not_if, never}
 use Rattle.loop_bind.proofs.LeavesState.{IsFree, stay-trans, stay-push, MeaningLeaves, ArgIsFree, SiteIsFree, Leaves, leaves-var, means_leaves, LeavesOn}
 use Rattle.loop_bind.proofs.LeavesMain.{on-self}
 

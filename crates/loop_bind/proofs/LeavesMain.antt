@@ -24,7 +24,7 @@ use Rattle.main_declarations.specs.SoFar.{Declared, Walked, does, behind, with_v
 use Rattle.main_declarations.specs.Meanings.{count_of}
 use Rattle.main_declarations.specs.Variables.{with_file_value, judged_file_declr, judged_file_declrs, with_fixed, with_fixed_later, with_turning, const_at, with_changing, initializer, judged_declr, judged_declrs, with_constant, after_constant}
 use Rattle.main_declarations.specs.File.{judged_extern, judged_array, judged_top, judged_tops}
-use Rattle.main_declarations.proofs.Judged.{Gives, gives_then, gives_any}
+use Rattle.main_declarations.proofs.Public.{Gives, gives_then, gives_any}
 use Rattle.loop_bind.proofs.FitsState.{at}
 use Rattle.loop_bind.proofs.LeavesState.{VarsStay, stay-self, stay-trans, stay-push, free-last, MeaningLeaves, NameLeaves, SiteIsFree, StepIsFree, steps_more, free_followed, Leaves, leaves-vars, leaves-var, leaves-own, leaves-file, WalkLeaves, LeavesOn, WalkOn}
 

@@ -17,7 +17,7 @@ use Rattle.loop_bind.specs.Weights.{weight_of_all, within_weight, weighed, trace
 use Rattle.loop_bind.specs.Bound.{text, happens, finished, unrolled_text, bound}
 use Rattle.loop_bind.specs.Constants.{LeavesConstants}
 use Rattle.loop_bind.specs.Resolvable.{BoundProgramsLeaveConstants}
-use Rattle.main_declarations.proofs.Judged.{Gives, gives_then, gives_any}
+use Rattle.main_declarations.proofs.Public.{Gives, gives_then, gives_any}
 use Rattle.loop_bind.proofs.FitsScopeWalk.{Scoped, tops_scoped, hosts_assign}
 use Rattle.loop_bind.proofs.LeavesState.{WalkLeaves, LeavesOn, WalkOn}
 use Rattle.loop_bind.proofs.LeavesMain.{nothing-leaves, tops-on}

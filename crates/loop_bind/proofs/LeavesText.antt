@@ -26,7 +26,7 @@ use Rattle.main_declarations.specs.Variables.{file_cells, after_constant, consta
 use Rattle.loop_bind.specs.Arguments.{judged_loop}
 use Rattle.loop_bind.specs.Text.{nested, turning, target_name, target_var, assignment, line_found, declares, judged_call, opened, followed_by, ended, with_counter, judged_bounds, judged_host, judged_hosts}
 use Rattle.loop_bind.proofs.FitsTargets.{IsVariable, Behind, AssignsVariables, AllAssignVariables}
-use Rattle.main_declarations.proofs.Judged.{Gives, gives_then, gives_unless, gives_any}
+use Rattle.main_declarations.proofs.Public.{Gives, gives_then, gives_unless, gives_any}
 use Rattle.loop_bind.proofs.LeavesState.{IsFree, stay-self, MeaningLeaves, NameLeaves, StepIsFree, steps_more, Leaves, leaves-own, means_leaves, WalkLeaves, LeavesOn, WalkOn}
 use Rattle.loop_bind.proofs.LeavesMain.{walk-behind, walk-does, walk-self, walk-step, walk-trans, walk-moved, on-name, declrs-on, after-constant}
 use Rattle.loop_bind.proofs.LeavesLoop.{loop-on}

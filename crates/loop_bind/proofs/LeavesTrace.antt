@@ -17,7 +17,7 @@ use Rattle.bound_program.specs.Trace.{Event, Turn, Does, Tells, Stops, Later, no
 use Rattle.bound_program.specs.Limited.{ToldValue, UnrolledValue, before, item, told, unrolled}
 use Rattle.loop_bind.specs.Weights.{started, with_told}
 use Rattle.loop_bind.specs.Constants.{ActLeaves, ItemLeaves, ArgLeaves, LeavesConstants}
-use Rattle.main_declarations.proofs.Judged.{Gives}
+use Rattle.main_declarations.proofs.Public.{Gives}
 use Rattle.loop_bind.proofs.FitsState.{at}
 use Rattle.loop_bind.proofs.LeavesState.{ActIsFree, StepIsFree, StepsAreFree, ArgIsFree, SiteIsFree}
 

@@ -1,42 +1,43 @@
 mod Examples
-pub mod NoNames
-pub mod Sums
-pub mod Started
-pub mod Outcomes
-pub mod FitsArgs
-pub mod FitsBound
-pub mod FitsConst
-pub mod FitsConstWalk
-pub mod FitsConstants
+mod NoNames
+mod Sums
+mod Started
+mod Outcomes
+mod FitsArgs
+mod FitsBound
+mod FitsConst
+mod FitsConstWalk
+mod FitsConstants
 mod FitsExample
-pub mod FitsExterns
-pub mod FitsFile
-pub mod FitsFileConsts
-pub mod FitsHidden
-pub mod FitsLoop
-pub mod FitsMain
-pub mod FitsMainConsts
-pub mod FitsMesh
-pub mod FitsMeshWalk
-pub mod FitsProgram
-pub mod FitsReads
-pub mod FitsScopeWalk
-pub mod FitsScopes
-pub mod FitsState
-pub mod FitsTags
-pub mod FitsTargets
-pub mod FitsText
-pub mod FitsTold
-pub mod FitsTrace
-pub mod FitsValues
-pub mod FitsVars
-pub mod CausedFinds
+mod FitsExterns
+mod FitsFile
+mod FitsFileConsts
+mod FitsHidden
+mod FitsLoop
+mod FitsMain
+mod FitsMainConsts
+mod FitsMesh
+mod FitsMeshWalk
+mod FitsProgram
+mod FitsReads
+mod FitsScopeWalk
+mod FitsScopes
+mod FitsState
+mod FitsTags
+mod FitsTargets
+mod FitsText
+mod FitsTold
+mod FitsTrace
+mod FitsValues
+mod FitsVars
+mod CausedFinds
 mod CausedText
-pub mod LeavesState
-pub mod LeavesMain
-pub mod LeavesLoop
-pub mod LeavesText
-pub mod LeavesTrace
-pub mod LeavesProgram
-pub mod NamedTokens
-pub mod NamedMesh
+mod LeavesState
+mod LeavesMain
+mod LeavesLoop
+mod LeavesText
+mod LeavesTrace
+mod LeavesProgram
+mod NamedTokens
+mod NamedMesh
+pub mod Public

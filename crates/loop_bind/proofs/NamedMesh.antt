@@ -40,7 +40,7 @@ use Rattle.loop_bind.specs.Text.{nested, turning, outermost, line_found, declare
 use Rattle.loop_bind.specs.Weights.{trace}
 use Rattle.loop_bind.specs.Bound.{text, happens, finished, unrolled_text, bound}
 use Rattle.loop_bind.specs.Names.{HasNames, BoundNamesAreNames}
-use Rattle.main_declarations.proofs.Judged.{Gives, gives_then, gives_unless, gives_any}
+use Rattle.main_declarations.proofs.Public.{Gives, gives_then, gives_unless, gives_any}
 use Rattle.loop_bind.proofs.NamedTokens.{CallIsNamed, HostIsNamed, HostsAreNamed, main-named}
 
 -- ---- one declaration more

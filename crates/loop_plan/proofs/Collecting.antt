@@ -8,7 +8,7 @@ use Rattle.lemmas.specs.Below.{listed, row}
 use Rattle.local_mesh.specs.RankSet.{has, has_at}
 use Rattle.local_mesh.specs.declared.rank_sets.rank_set.RankSet.{RankSet}
 use Rattle.lemmas.proofs.Below.{listed_agree}
-use Rattle.local_mesh.proofs.rank_sets.Rows.{has_at_push, has_at_push_left}
+use Rattle.local_mesh.proofs.Public.{has_at_push, has_at_push_left}
 use Rattle.loop_plan.specs.Pairs.{pair, pairs_below}
 use Rattle.loop_plan.specs.declared.types.Pair.{Pair}
 use Rattle.std.proofs.Math.Bool.{and-false, and-true}

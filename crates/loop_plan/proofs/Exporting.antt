@@ -14,7 +14,7 @@ use Rattle.local_mesh.specs.declared.types.RankMesh.{RankMesh}
 use Rattle.local_mesh.specs.Local.{earlier, AreApart}
 use Rattle.local_mesh.specs.Parts.{by_new}
 use Rattle.local_mesh.specs.LocalMesh.{IsLocalSet, IsRankMesh, AreRankMeshes, originals_in, executed_in}
-use Rattle.local_mesh.proofs.Numbered.{groups_apart, number_few}
+use Rattle.local_mesh.proofs.Public.{groups_apart, number_few}
 use Rattle.loop_plan.specs.Pairs.{sets_of, own_in, owned, imported, imports_from}
 use Rattle.loop_plan.proofs.Imports.{owned_is_own, own_is_owned, imported_is_import, imported_below, import_is_imported}
 use Rattle.lemmas.proofs.Lists.{any_at, element_at}

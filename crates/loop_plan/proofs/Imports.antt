@@ -8,7 +8,7 @@ use Rattle.std.proofs.lemmas.List.Folds.{list_any_at}
 use Rattle.lemmas.proofs.Below.{count_lt}
 use Rattle.mesh_decl.specs.Owners.{IsNumbering}
 use Rattle.local_mesh.specs.Local.{earlier, local_number, AreInverse}
-use Rattle.local_mesh.proofs.Numbered.{number_below, number_copied, number_contains}
+use Rattle.local_mesh.proofs.Public.{number_below, number_copied, number_contains}
 use Rattle.lemmas.proofs.Lists.{any_at, contains_at}
 
 module _ (n : ℕ) (perm : List ℕ) (p q r : ℕ → Bool) (original : List ℕ) (perms : IsNumbering n perm) (inv : AreInverse n (λ j. get_or perm j 0) p q r original) where

@@ -1,30 +1,31 @@
-pub mod StepsCounted
-pub mod StepTotals
-pub mod WholeSums
-pub mod Numbers
-pub mod Behind
-pub mod History
-pub mod Ranges
-pub mod Imports
-pub mod Exporting
-pub mod Lines
-pub mod Pairing
-pub mod Collecting
-pub mod Receiving
-pub mod PlansMore
-pub mod SetReads
-pub mod Running
-pub mod SitePlanning
-pub mod Planning
-pub mod ProperPlan
-pub mod PlanReads
-pub mod PlanLines
-pub mod PlanWriting
-pub mod AlikeMeshes
-pub mod OneColouring
-pub mod AlikeLists
-pub mod OnePlan
-pub mod OneReading
+mod StepsCounted
+mod StepTotals
+mod WholeSums
+mod Numbers
+mod Behind
+mod History
+mod Ranges
+mod Imports
+mod Exporting
+mod Lines
+mod Pairing
+mod Collecting
+mod Receiving
+mod PlansMore
+mod SetReads
+mod Running
+mod SitePlanning
+mod Planning
+mod ProperPlan
+mod PlanReads
+mod PlanLines
+mod PlanWriting
+mod AlikeMeshes
+mod OneColouring
+mod AlikeLists
+mod OnePlan
+mod OneReading
 mod OneStepCount
-pub mod Sharing
-pub mod SamePlans
+mod Sharing
+mod SamePlans
+pub mod Public

@@ -7,10 +7,10 @@ use Rattle.std.proofs.Math.Path.{fun_ext}
 use Rattle.lemmas.specs.Below.{listed, count_below}
 use Rattle.lemmas.proofs.Below.{listed_agree, length_listed, at_listed}
 use Rattle.mesh_decl.specs.Mesh.{set_count, dat_count}
-use Rattle.mesh_decl.proofs.FieldReads.{some_in}
+use Rattle.mesh_decl.proofs.Public.{some_in}
 use Rattle.local_mesh.specs.declared.types.RankMesh.{RankMesh}
 use Rattle.colouring.specs.declared.types.Colours.{Colours}
-use Rattle.schedule_model.proofs.History.{by_bit}
+use Rattle.schedule_model.proofs.Public.{by_bit}
 use Rattle.schedule_steps.specs.Outline.{Outline}
 use Rattle.schedule_steps.specs.Peaks.{step_count}
 use Rattle.bound_program.specs.Values.{BoundValue}

@@ -13,7 +13,7 @@ use Rattle.lemmas.proofs.Below.{length_listed, at_listed}
 use Rattle.op_num.specs.Lines.{line_of, text_of_lines}
 use Rattle.mesh_decl.specs.Mesh.{MeshValue, set_count, dat_count}
 use Rattle.local_mesh.specs.declared.types.RankMesh.{RankMesh}
-use Rattle.local_mesh.proofs.Grouping.{listed_within}
+use Rattle.local_mesh.proofs.Public.{listed_within}
 use Rattle.bound_program.specs.Values.{ItemValue, BoundValue}
 use Rattle.loop_plan.specs.declared.types.ItemPlan.{ItemPlan}
 use Rattle.loop_plan.specs.Values.{ItemPlanValue, SitePlanValue, PlanValue, item_plan, site_plan, or_none, item_plan_of, no_item_plan}

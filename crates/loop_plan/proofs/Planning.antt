@@ -6,7 +6,7 @@ use Rattle.lemmas.proofs.Below.{listed_agree}
 use Rattle.mesh_decl.specs.Mesh.{MeshValue, IsDatAt, set_size, dat_count, dat_set}
 use Rattle.local_mesh.specs.declared.halo_lists.types.Halos.{Halos}
 use Rattle.local_mesh.specs.declared.types.RankMesh.{RankMesh}
-use Rattle.local_mesh.proofs.Grouping.{listed_within}
+use Rattle.local_mesh.proofs.Public.{listed_within}
 use Rattle.bound_program.specs.Values.{ItemValue, Free, Reduce, Ordered, Host, BoundValue}
 use Rattle.loop_plan.specs.declared.types.ItemPlan.{ItemPlan}
 use Rattle.loop_plan.specs.Needs.{item_at, run_of, exchanged_at, IsLoopOf, IsInRange}

@@ -12,7 +12,7 @@ use Rattle.schedule_steps.specs.Peaks.{step_count}
 use Rattle.colouring.specs.declared.types.IncArg.{IncArg}
 use Rattle.colouring.specs.declared.types.Colours.{Colours}
 use Rattle.colouring.specs.Colours.{ConflictWithin, AreColours}
-use Rattle.colouring.proofs.Ordering.{blocks_differ}
+use Rattle.colouring.proofs.Public.{blocks_differ}
 use Rattle.bound_program.specs.Values.{Exit, ItemValue, Free, Reduce, Ordered, Host, BoundValue}
 use Rattle.bound_program.specs.Fits.{site_at}
 use Rattle.loop_plan.specs.declared.types.ItemPlan.{ItemPlan}

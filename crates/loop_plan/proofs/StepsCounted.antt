@@ -7,7 +7,7 @@ use Rattle.schedule_steps.specs.declared.step.Step.{Step}
 use Rattle.schedule_steps.specs.declared.step.Step.TheVariants.{Send, Recv, Begin, End, Join}
 use Rattle.schedule_steps.specs.Standard.{below, where_true, above, one_if, tally, sends_of, receives_of, is_member, group_of, in_group, group_steps, block_steps, blocks, element_steps, item_steps, standard}
 use Rattle.loop_plan.specs.Counted.{sum_below, messages, element_runs, steps_of, counted_steps}
-use Rattle.schedule_steps.proofs.Standard.{above_each}
+use Rattle.schedule_steps.proofs.Public.{above_each}
 
 -- ---- sums
 pub same_sum : (f g : ℕ → ℕ) (n : ℕ) → ((i : ℕ) → i < n → f i ≡ g i) → sum_below f n ≡ sum_below g n

@@ -8,7 +8,7 @@ use Rattle.bound_program.specs.declared.refusals.refusals.Counted.{Counted}
 use Rattle.bound_program.specs.declared.refusals.founds.Turn.{Turn}
 use Rattle.bound_program.specs.declared.refusals.founds.Found.{Found}
 use Rattle.bound_program.specs.Refusals.{Judged, ◌>>=◌, unless, unless_found, first_of, found_in, found_over, found_if}
-use Rattle.bound_program.proofs.refusals.First.{answers}
+use Rattle.bound_program.proofs.Public.{answers}
 
 -- what is so of the value, where there is one
 abbrev pub Gives : {A : Type 0} → (A → Type 0) → Judged A → Type 0

@@ -1,6 +1,7 @@
-pub mod MapTargets
-pub mod Strays
-pub mod WalkTurns
-pub mod Judged
-pub mod Shapes
-pub mod KnownNames
+mod MapTargets
+mod Strays
+mod WalkTurns
+mod Judged
+mod Shapes
+mod KnownNames
+pub mod Public

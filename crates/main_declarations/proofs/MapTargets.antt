@@ -20,7 +20,7 @@ use Rattle.bound_program.specs.declared.refusals.refusals.BindRefusal.{BindRefus
 use Rattle.bound_program.specs.declared.refusals.refusals.BindRefusal.TheVariants as refusal
 use Rattle.bound_program.specs.declared.refusals.refusals.Counted.TheVariants as counted
 use Rattle.bound_program.specs.Refusals.{place, is_before, earlier, least_from, first_of, unless_found, found_in, found_if, found_over}
-use Rattle.bound_program.proofs.refusals.Firsts.{least_append}
+use Rattle.bound_program.proofs.Public.{least_append}
 use Rattle.main_declarations.specs.Names.{means}
 use Rattle.main_declarations.specs.Meanings.{array_of, count_of, or_none, or_zero, set_of}
 use Rattle.main_declarations.specs.SoFar.{Declared}

@@ -65,7 +65,7 @@ fn file_cells(source: &Source<'_>, meaning: Option<Meaning>) -> Option<Cells>
 }
 
 // Notes what is wrong with the variable and the dim of a constant.
-#[tactic(auto, using(bound_program::proofs::refusals::Firsts::least_append))]
+#[tactic(auto, using(bound_program::proofs::Public::least_append))]
 fn note_constant(
     source: &Source<'_>,
     first: &mut Option<Found>,
@@ -93,7 +93,7 @@ fn note_constant(
 }
 
 // The first of what is wrong with the declaration of a constant.
-#[tactic(auto, using(bound_program::proofs::refusals::Firsts::first_of_three))]
+#[tactic(auto, using(bound_program::proofs::Public::first_of_three))]
 fn first_in_constant(
     source: &Source<'_>,
     k: &Declared,

@@ -24,7 +24,7 @@ use mesh_decl::MapRefusal;
 use op_num::{Name, OutOfMemory};
 
 // Notes what is wrong with a map between these sets, with these values, its targets aside.
-#[tactic(auto, using(bound_program::proofs::refusals::Firsts::least_append))]
+#[tactic(auto, using(bound_program::proofs::Public::least_append))]
 fn note_shape(
     source: &Source<'_>,
     first: &mut Option<Found>,
@@ -56,7 +56,7 @@ fn note_shape(
 }
 
 // The first of what is wrong with the declaration of a map, its targets aside.
-#[tactic(auto, using(bound_program::proofs::refusals::Firsts::first_of_three))]
+#[tactic(auto, using(bound_program::proofs::Public::first_of_three))]
 fn first_in_shape(
     source: &Source<'_>,
     k: &Declared,

@@ -72,7 +72,7 @@ pub fn note_set(source: &Source<'_>, first: &mut Option<Found>, k: &Declared, x:
 }
 
 /// Notes a dim that is 0 or above its limit.
-#[tactic(auto, using(bound_program::proofs::refusals::Firsts::least_append))]
+#[tactic(auto, using(bound_program::proofs::Public::least_append))]
 pub fn note_dim(source: &Source<'_>, first: &mut Option<Found>, n: NumberLiteral)
     ensures { first.new ≡ least_from first.old (dim_found source.now.places.now n) }
 {
@@ -253,7 +253,7 @@ pub fn note_cells(
 }
 
 /// Notes what is wrong with the value of a size.
-#[tactic(auto, using(bound_program::proofs::refusals::Firsts::least_append))]
+#[tactic(auto, using(bound_program::proofs::Public::least_append))]
 pub fn note_value(
     source: &Source<'_>,
     first: &mut Option<Found>,

@@ -78,7 +78,7 @@ fn add_set(k: &mut Declared, x: &Ident, size: u32) -> Result<(), OutOfMemory>
 }
 
 // The first of what is wrong with the declaration of a set.
-#[tactic(auto, using(bound_program::proofs::refusals::Firsts::first_of_three))]
+#[tactic(auto, using(bound_program::proofs::Public::first_of_three))]
 fn first_in_set(
     source: &Source<'_>,
     k: &Declared,
@@ -126,7 +126,7 @@ pub fn judged_set(
 }
 
 // Notes what is wrong with a dat on this set, with these values.
-#[tactic(auto, using(bound_program::proofs::refusals::Firsts::least_append))]
+#[tactic(auto, using(bound_program::proofs::Public::least_append))]
 fn note_dat(
     source: &Source<'_>,
     first: &mut Option<Found>,
@@ -186,7 +186,7 @@ fn add_dat(
 }
 
 // The first of what is wrong with the declaration of a dat.
-#[tactic(auto, using(bound_program::proofs::refusals::Firsts::first_of_three))]
+#[tactic(auto, using(bound_program::proofs::Public::first_of_three))]
 fn first_in_dat(
     source: &Source<'_>,
     k: &Declared,

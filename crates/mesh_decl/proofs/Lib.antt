@@ -1,6 +1,7 @@
-pub mod FieldReads
-pub mod Declared
-pub mod Targets
-pub mod Examples
-pub mod FirstNamed
-pub mod OtherValues
+mod FieldReads
+mod Declared
+mod Targets
+mod Examples
+mod FirstNamed
+mod OtherValues
+pub mod Public

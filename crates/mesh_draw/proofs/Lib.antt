@@ -1,1 +1,1 @@
-pub mod Past
+mod Past

@@ -1,4 +1,4 @@
-pub mod Bounds
-pub mod Rows
-pub mod Weights
-pub mod Short
+mod Bounds
+mod Rows
+mod Weights
+mod Short

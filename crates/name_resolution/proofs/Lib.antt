@@ -1,22 +1,23 @@
-pub mod Firsts
-pub mod Sizes
-pub mod Swap
-pub mod Chains
-pub mod Steps
-pub mod HostTurns
-pub mod Constants
-pub mod FileTurns
-pub mod Least
-pub mod Follow
-pub mod Unique
-pub mod Trees
-pub mod Fits
-pub mod ExprsWithin
-pub mod Within
-pub mod Counters
-pub mod Bridge
-pub mod Whole
-pub mod Programs
-pub mod MadeKernels
-pub mod ShortLists
-pub mod Comes
+mod Firsts
+mod Sizes
+mod Swap
+mod Chains
+mod Steps
+mod HostTurns
+mod Constants
+mod FileTurns
+mod Least
+mod Follow
+mod Unique
+mod Trees
+mod Fits
+mod ExprsWithin
+mod Within
+mod Counters
+mod Bridge
+mod Whole
+mod Programs
+mod MadeKernels
+mod ShortLists
+mod Comes
+pub mod Public

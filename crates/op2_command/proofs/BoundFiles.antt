@@ -11,8 +11,7 @@ use Rattle.command_words.specs.declared.answer_lines.call_answer.Answer.{Answer}
 use Rattle.command_words.specs.declared.answer_lines.refusals.Halt.{Halt}
 use Rattle.job_inputs.specs.Inputs.{IsBoundIn}
 use Rattle.job_inputs.specs.Chains.{Never, HaltsOver, AnswersFrom, AnswersOver}
-use Rattle.job_inputs.proofs.Chained.{SomeAreSeen, halts_weaker, answers_on, still_named, names_are, to_whole}
-use Rattle.job_inputs.proofs.Jobs.{never_weaker, reached}
+use Rattle.job_inputs.proofs.Public.{SomeAreSeen, halts_weaker, answers_on, still_named, names_are, to_whole, never_weaker, reached}
 
 -- ---- a job on a plan
 

@@ -14,8 +14,7 @@ use Rattle.command_words.specs.declared.answer_lines.refusals.Halt.{Halt}
 use Rattle.command_words.specs.Halts.{StopsWhere}
 use Rattle.job_inputs.specs.Inputs.{cut_by}
 use Rattle.job_inputs.specs.Chains.{HaltsOver, AnswersFrom}
-use Rattle.job_inputs.proofs.Chained.{halts_weaker, stops_on, answers_on, still_named}
-use Rattle.job_inputs.proofs.Jobs.{next_first, next_then}
+use Rattle.job_inputs.proofs.Public.{halts_weaker, stops_on, answers_on, still_named, next_first, next_then}
 
 -- ---- names that are next
 

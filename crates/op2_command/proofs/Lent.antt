@@ -1,6 +1,6 @@
 -- The names that a job on a plan reads are lent, where all of its words are.
 use Rattle.std.proofs.Common.{List, ◌++◌, All}
-use Rattle.job_inputs.proofs.Lent.{all_left, all_right}
+use Rattle.job_inputs.proofs.Public.{all_left, all_right}
 
 -- of five lists, one behind the other, each
 module _ {X : Type 0} (P : X → Type 0) (input state parting plan schedule : List X) (h : All P (input ++ state ++ parting ++ plan ++ schedule)) where

@@ -18,8 +18,8 @@ use Rattle.command_words.specs.declared.answer_lines.refusals.Halt.{Halt}
 use Rattle.command_words.specs.Halts.{StopsWhere, answer_of}
 use Rattle.job_inputs.specs.Chains.{AnswersBy, HaltsOver, AnswersFrom}
 use Rattle.op2_command.specs.Chains.{StepsAnswers, ScheduleAnswers}
-use Rattle.command_words.proofs.answer_lines.Halts.{stops_weaker}
-use Rattle.job_inputs.proofs.Chained.{halts_weaker, answers_by, finds_from}
+use Rattle.command_words.proofs.Public.{stops_weaker}
+use Rattle.job_inputs.proofs.Public.{halts_weaker, answers_by, finds_from}
 
 -- ---- schedules
 

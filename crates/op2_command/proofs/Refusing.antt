@@ -25,7 +25,7 @@ use Rattle.answers.specs.Judgements.{steps_in, judged_next, IsStepRefused}
 use Rattle.command_words.specs.declared.answer_lines.refusals.Halt.{Halt}
 use Rattle.command_words.specs.Halts.{StopsWhere}
 use Rattle.op2_command.specs.Chains.{CanRefuse, SaysFirst}
-use Rattle.command_words.proofs.answer_lines.Halts.{stops_weaker}
+use Rattle.command_words.proofs.Public.{stops_weaker}
 
 module _ (o : Outline) where
   -- where the steps of l are taken in turn behind those of done, each is judged well where those before it are taken

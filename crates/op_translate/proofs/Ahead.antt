@@ -14,9 +14,7 @@ use Rattle.c_tree.specs.declared.lexer.tokens.Word.{Word}
 use Rattle.c_tree.specs.declared.lexer.spelling.TheConstants.{WORDS}
 use Rattle.c_tree.specs.Spelling.{sign_spelling, word_spelling, letter, digit, part, textual, text_spelling, IsName, IsFigure, HasForm}
 use Rattle.c_tree.specs.Lexed.{EndsLine, IsPassed, BeginsNoComment, NoLonger, IsLongest, Part, Passed, Spelled, IsPartBefore}
-use Rattle.c_tree.proofs.lexer.Forms.{no_word, word_named, begins, not_empty, letter_digit, text_begins}
-use Rattle.c_tree.proofs.lexer.Longest.{text_one}
-use Rattle.c_tree.proofs.lexer.Apart.{letter_bounds}
+use Rattle.c_tree.proofs.Public.{no_word, word_named, begins, not_empty, letter_digit, text_begins, text_one, letter_bounds}
 use Rattle.lemmas.proofs.Lists.{find_passes}
 
 -- ---- lists

@@ -11,8 +11,7 @@ use Rattle.c_tree.specs.declared.lexer.tokens.Word.{Word}
 use Rattle.c_tree.specs.declared.lexer.tokens.Word.TheVariants as word
 use Rattle.c_tree.specs.Spelling.{sign_spelling, word_spelling, part, IsName, HasForm}
 use Rattle.c_tree.specs.Lexed.{fresh_after, BeginsNoComment, NoLonger, IsLongest, Part, Passed, Spelled, all_bytes, is_number}
-use Rattle.c_tree.proofs.lexer.Forms.{Begins, BeginsSign, begins, name_begins, sign_begins_as, not_empty}
-use Rattle.c_tree.proofs.lexer.Apart.{letter_bounds}
+use Rattle.c_tree.proofs.Public.{Begins, BeginsSign, begins, name_begins, sign_begins_as, not_empty, letter_bounds}
 use Rattle.op_translate.specs.Translation.{prefix}
 use Rattle.op_translate.proofs.Ahead.{beyond, all_at}
 use Rattle.op_translate.proofs.Patches.{fresh_behind, number_behind, IsSwap}

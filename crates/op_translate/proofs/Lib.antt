@@ -1,16 +1,16 @@
-pub mod Steps
-pub mod Answered
-pub mod Quiet
-pub mod Spans
-pub mod Ahead
-pub mod Patches
-pub mod Calls
-pub mod Made
-pub mod Quietly
-pub mod Printed
-pub mod Named
-pub mod Lines
-pub mod Tail
-pub mod Sites
-pub mod Edited
-pub mod Restorable
+mod Steps
+mod Answered
+mod Quiet
+mod Spans
+mod Ahead
+mod Patches
+mod Calls
+mod Made
+mod Quietly
+mod Printed
+mod Named
+mod Lines
+mod Tail
+mod Sites
+mod Edited
+mod Restorable

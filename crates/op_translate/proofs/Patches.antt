@@ -3,7 +3,7 @@ use Rattle.std.proofs.Common.{◌≡◌, ℕ, Bool, true, false, List, [], ◌�
 use Rattle.std.proofs.lemmas.List.{append_cancel_left}
 use Rattle.c_tree.specs.Spelling.{letter}
 use Rattle.c_tree.specs.Lexed.{IsApart, IsPassed, Stop, AtEnd, Part, Passed, Spelled, bytes_of, all_bytes, IsPartBefore, is_fresh_behind, is_number_part, AreParts}
-use Rattle.c_tree.proofs.lexer.Forms.{not_empty}
+use Rattle.c_tree.proofs.Public.{not_empty}
 use Rattle.op_translate.proofs.Ahead.{part_kept}
 use Rattle.std.proofs.lemmas.Bool.{true≢false}
 

@@ -6,8 +6,7 @@ use Rattle.std.proofs.lemmas.List.{append_cancel_left}
 use Rattle.c_tree.specs.declared.lexer.tokens.Kind.{Kind}
 use Rattle.c_tree.specs.Spelling.{all_escaped, HasForm}
 use Rattle.c_tree.specs.Lexed.{IsApart, IsPassed, AtEnd, Part, Passed, Spelled, bytes_of, all_bytes, IsPartBefore, is_fresh_behind, is_number_part, AreParts}
-use Rattle.c_tree.proofs.lexer.Forms.{begins}
-use Rattle.c_tree.proofs.lexer.Apart.{blank_begins}
+use Rattle.c_tree.proofs.Public.{begins, blank_begins}
 use Rattle.op_translate.specs.Translation.{ends_line, line_end}
 use Rattle.op_translate.proofs.Ahead.{front_of, beyond, lf_inside, part_kept}
 use Rattle.op_translate.proofs.Patches.{Some, part_some}

@@ -7,7 +7,7 @@ use Rattle.std.proofs.lemmas.Bool.{cases_eq, cases_lt, false_from_ne_true}
 use Rattle.std.proofs.lemmas.List.{length_push, length-drop, get_or-drop, get_or_push, get_or_append_left, take-append-le, take_all, get_or-take, length-take-le, get_or_default}
 use Rattle.renumber.specs.Keys.{keyed}
 use Rattle.renumber.specs.Taken.{earliest, IsWalk, Rises}
-use Rattle.renumber.proofs.breadth_order.Walk.{walk_push, earliest_is, earliest_none, earliest_at, earliest_ge, unmarked, untaken, marked_set}
+use Rattle.renumber.proofs.Public.{walk_push, earliest_is, earliest_none, earliest_at, earliest_ge, unmarked, untaken, marked_set}
 use Rattle.partition.specs.Block.{block_start, InBlock}
 use Rattle.partition.specs.Grow.{IsNextFree, AreNextFree, IsGrowing}
 use Rattle.lemmas.proofs.Truth.{not_both}

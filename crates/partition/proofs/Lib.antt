@@ -1,17 +1,18 @@
-pub mod Shares
-pub mod Firsts
-pub mod Gathered
-pub mod Naming
-pub mod TurnSteps
-pub mod Giving
-pub mod OneSet
-pub mod Axes
-pub mod Along
-pub mod Parts
-pub mod Sorting
-pub mod Parting
-pub mod Halving
-pub mod OneGrowth
-pub mod OneBisection
-pub mod OneDerivation
-pub mod Votes
+mod Shares
+mod Firsts
+mod Gathered
+mod Naming
+mod TurnSteps
+mod Giving
+mod OneSet
+mod Axes
+mod Along
+mod Parts
+mod Sorting
+mod Parting
+mod Halving
+mod OneGrowth
+mod OneBisection
+mod OneDerivation
+mod Votes
+pub mod Public

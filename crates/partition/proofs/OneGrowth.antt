@@ -7,7 +7,7 @@ use Rattle.std.proofs.lemmas.List.Folds.{list_any_at}
 use Rattle.std.proofs.lemmas.Map.Steps.{length-le_from_distinct_below}
 use Rattle.std.proofs.lemmas.Map.Views.{Contains-from_any}
 use Rattle.std.proofs.Math.Nat.{mul-div_cancel_left}
-use Rattle.renumber.proofs.breadth_order.OneOrder.{one_order, in_front}
+use Rattle.renumber.proofs.Public.{one_order, in_front}
 use Rattle.partition.specs.Block.{block_start, InBlock}
 use Rattle.partition.specs.Grow.{IsNextFree, AreNextFree, IsGrown}
 use Rattle.partition.proofs.Giving.{in_some_block}

@@ -11,7 +11,7 @@ use Rattle.loop_plan.specs.Values.{SitePlanValue, PlanValue, site_plan}
 use Rattle.loop_plan.specs.Places.{runs_free}
 use Rattle.loop_plan.specs.Proper.{Proper}
 use Rattle.loop_plan.specs.OnePlan.{AreAlike}
-use Rattle.loop_plan.proofs.AlikeMeshes.{length_same}
+use Rattle.loop_plan.proofs.Public.{length_same}
 use Rattle.plan_cert.specs.Awaited.{Exactly, Sizes, Done, awaited, header_line, ColourLists, FitLines}
 use Rattle.plan_cert.specs.Certified.{all, lists_of, colours_in, Certified}
 use Rattle.plan_cert.proofs.SameRanks.{awaited_same, lines_to}

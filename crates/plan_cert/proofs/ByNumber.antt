@@ -6,7 +6,7 @@ use Rattle.std.specs.List.{list_any, flat_map}
 use Rattle.std.proofs.lemmas.Bool.{cases_eq, eq-eqb, ne_eqb, false≢true, or_parts}
 use Rattle.lemmas.specs.Below.{listed}
 use Rattle.loop_plan.specs.Values.{SitePlanValue, PlanValue, site_plan, or_none}
-use Rattle.loop_plan.proofs.Numbers.{not_listed}
+use Rattle.loop_plan.proofs.Public.{not_listed}
 
 -- ---- numbers
 

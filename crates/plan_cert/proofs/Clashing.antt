@@ -6,7 +6,7 @@ use Rattle.mesh_decl.specs.Mesh.{MeshValue}
 use Rattle.colouring.specs.declared.types.IncArg.{IncArg}
 use Rattle.colouring.specs.Colours.{BlocksConflict, ConflictWithin}
 use Rattle.colouring.specs.Clashes.{BlocksClash, PlacesClash}
-use Rattle.loop_plan.proofs.plan_exists.Tests.{within, within_is, between, between_is}
+use Rattle.loop_plan.proofs.Public.{within, within_is, between, between_is}
 use Rattle.plan_cert.proofs.Deciding.{Known, SomeBelow, both_known, not_known, known_by, below_known}
 
 passes_known : (t : Bool) → Known (t ≡ true)

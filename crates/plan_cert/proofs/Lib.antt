@@ -1,25 +1,25 @@
-pub mod Reading
-pub mod Lining
-pub mod Deciding
-pub mod Telling
-pub mod ColourWords
-pub mod SameRanks
-pub mod OneLine
-pub mod Sizing
-pub mod LoopLines
-pub mod Loops
-pub mod Judging
-pub mod OneOutcome
-pub mod ByNumber
-pub mod AlikePlans
-pub mod Below
-pub mod ProgramSteps
-pub mod Written
-pub mod Clashing
-pub mod Outcomes
-pub mod SiteOutcome
-pub mod LoopsOutcome
-pub mod Replanned
-pub mod SomeOutcome
-pub mod ShortColours
-pub mod SameLoops
+mod Reading
+mod Lining
+mod Deciding
+mod Telling
+mod ColourWords
+mod SameRanks
+mod OneLine
+mod Sizing
+mod LoopLines
+mod Loops
+mod Judging
+mod OneOutcome
+mod ByNumber
+mod AlikePlans
+mod Below
+mod ProgramSteps
+mod Written
+mod Clashing
+mod Outcomes
+mod SiteOutcome
+mod LoopsOutcome
+mod Replanned
+mod SomeOutcome
+mod ShortColours
+mod SameLoops

@@ -11,11 +11,10 @@ use Rattle.std.proofs.lemmas.List.Sums.{AllPass-from_list_all}
 use Rattle.op_num.specs.Spelling.{number_of}
 use Rattle.op_num.specs.Cut.{dark}
 use Rattle.op_num.specs.Lines.{line_of}
-use Rattle.op_num.proofs.texts.Words.{number_token}
+use Rattle.op_num.proofs.Public.{number_token, one_line, one_cut}
 use Rattle.op_num.specs.CutLines.{is_lf, is_space, words, HasNoLf, HasNoSpace}
-use Rattle.op_num.proofs.texts.line_texts.Cutting.{one_line, one_cut}
 use Rattle.loop_plan.specs.Spaced.{spaced}
-use Rattle.loop_plan.proofs.Lines.{line_is_spaced}
+use Rattle.loop_plan.proofs.Public.{line_is_spaced}
 use Rattle.lemmas.proofs.Lists.{list_all_cons}
 
 -- ---- words without blanks

@@ -10,8 +10,7 @@ use Rattle.loop_plan.specs.Values.{SitePlanValue}
 use Rattle.loop_plan.specs.Places.{places_of, runs_free}
 use Rattle.loop_plan.specs.Proper.{Separate, HasColours, IsSitePlan}
 use Rattle.loop_plan.specs.SitePlans.{AreSitePlans}
-use Rattle.loop_plan.proofs.SitePlanning.{one_each, plans_kept, plans_added}
-use Rattle.loop_plan.proofs.plan_exists.Built.{table, length_table, table_at}
+use Rattle.loop_plan.proofs.Public.{one_each, plans_kept, plans_added, table, length_table, table_at}
 use Rattle.plan_cert.specs.Awaited.{ColoursOf, awaited_ranks, awaited_sites, ColourLists, places_in}
 use Rattle.plan_cert.specs.Certified.{lists_of, colours_in}
 use Rattle.plan_cert.proofs.Outcomes.{Outcome, none_taken, each_taken}

@@ -3,7 +3,7 @@ use Rattle.std.proofs.Common.{◌≡◌, ℕ, ◌+◌, ◌*◌, ◌<◌, Bool, t
 use Rattle.std.specs.Prelude.{◌&&◌}
 use Rattle.lemmas.proofs.Below.{listed_agree}
 use Rattle.mesh_decl.specs.Mesh.{dat_count}
-use Rattle.schedule_model.proofs.History.{by_bit}
+use Rattle.schedule_model.proofs.Public.{by_bit}
 use Rattle.schedule_steps.specs.Peaks.{step_count}
 use Rattle.local_mesh.specs.declared.types.RankMesh.{RankMesh}
 use Rattle.bound_program.specs.Values.{BoundValue}
@@ -17,9 +17,7 @@ use Rattle.loop_plan.specs.Counted.{sum_below}
 use Rattle.loop_plan.specs.Counts.{Counts}
 use Rattle.loop_plan.specs.StepCounts.{exchange_of, message_count, place_count, steps_at, program_steps}
 use Rattle.loop_plan.specs.StepOutline.{is_free, loop_of, step_outline, item_step_count}
-use Rattle.loop_plan.proofs.StepsCounted.{same_sum}
-use Rattle.loop_plan.proofs.StepTotals.{sum_of_list, steps_counted}
-use Rattle.loop_plan.proofs.ProperPlan.{loop_below, loop_runs}
+use Rattle.loop_plan.proofs.Public.{same_sum, sum_of_list, steps_counted, loop_below, loop_runs}
 use Rattle.plan_cert.specs.Laws.{CertifiedHaveSteps}
 use Rattle.std.proofs.Math.Bool.{and_comm}
 

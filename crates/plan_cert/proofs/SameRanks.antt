@@ -16,7 +16,7 @@ use Rattle.bound_program.specs.Values.{BoundValue}
 use Rattle.bound_program.specs.Fits.{site_at}
 use Rattle.loop_plan.specs.Pairs.{sets_of}
 use Rattle.loop_plan.specs.Places.{reducing, maps_of, runs_free}
-use Rattle.loop_plan.proofs.AlikeMeshes.{length_same, sets_same, rows_same, places_same, halo_line_same}
+use Rattle.loop_plan.proofs.Public.{length_same, sets_same, rows_same, places_same, halo_line_same}
 use Rattle.plan_cert.specs.Awaited.{Awaited, Exactly, Sizes, ColoursOf, Done, each_below, awaited_halo, awaited_set, awaited_halos, awaited_ranks, awaited_sites, awaited_items, awaited, header_line, ColourLists, IsSizes, IsSite, places_in, BlocksClashIn, PlacesClashIn, FitsLine, FitLines}
 use Rattle.plan_cert.specs.Certified.{Clashes, Refuses, RefusedAmong, IsRefused}
 

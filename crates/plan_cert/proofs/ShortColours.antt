@@ -5,12 +5,12 @@ use Rattle.std.proofs.lemmas.Bool.{cases_lt}
 use Rattle.std.proofs.lemmas.List.{get_or_default}
 use Rattle.mesh_decl.specs.declared.owners.Owners.{Owners}
 use Rattle.mesh_decl.specs.declared.owners.Perms.{Perms}
-use Rattle.mesh_decl.proofs.Declared.{sizes_fit}
+use Rattle.mesh_decl.proofs.Public.{sizes_fit}
 use Rattle.local_mesh.specs.declared.types.RankMesh.{RankMesh}
 use Rattle.local_mesh.specs.LocalMesh.{executed_in}
 use Rattle.colouring.specs.declared.types.Colours.{Colours}
 use Rattle.colouring.specs.Colours.{BlocksConflict, ConflictWithin, IsLeast, AreColours}
-use Rattle.colouring.proofs.Alike.{few_blocks}
+use Rattle.colouring.proofs.Public.{few_blocks}
 use Rattle.bound_program.specs.Values.{BoundValue}
 use Rattle.bound_program.specs.Fits.{site_at, Fits}
 use Rattle.bound_program.specs.Classes.{scatters}
@@ -19,9 +19,7 @@ use Rattle.loop_plan.specs.Values.{PlanValue, site_plan}
 use Rattle.loop_plan.specs.Pairs.{sets_of, own_in}
 use Rattle.loop_plan.specs.Places.{reducing, places_of, maps_of}
 use Rattle.loop_plan.specs.Proper.{Proper, HasLeastColours}
-use Rattle.loop_plan.proofs.Exporting.{executed_few}
-use Rattle.loop_plan.proofs.SetReads.{own_within}
-use Rattle.loop_plan.proofs.SitePlanning.{set_fits}
+use Rattle.loop_plan.proofs.Public.{executed_few, own_within, set_fits}
 use Rattle.plan_cert.specs.Laws.{HasShortColours, LeastAreShort}
 
 -- ---- a least colour is no larger than its place

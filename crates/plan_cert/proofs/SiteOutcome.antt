@@ -5,15 +5,15 @@ use Rattle.std.specs.List.{join_with_byte}
 use Rattle.std.proofs.Math.Nat.{le-div_iff_mul-le}
 use Rattle.op_num.specs.Lines.{line_of}
 use Rattle.op_num.specs.CutLines.{words, HasNoLf}
-use Rattle.op_num.proofs.texts.line_texts.Cutting.{joined}
+use Rattle.op_num.proofs.Public.{joined}
 use Rattle.local_mesh.specs.declared.types.RankMesh.{RankMesh}
 use Rattle.colouring.specs.declared.types.Colours.{Colours}
-use Rattle.colouring.proofs.Alike.{few_blocks}
+use Rattle.colouring.proofs.Public.{few_blocks}
 use Rattle.bound_program.specs.Values.{BoundValue}
 use Rattle.bound_program.specs.Fits.{site_at}
 use Rattle.loop_plan.specs.Places.{reducing, maps_of}
 use Rattle.loop_plan.specs.Proper.{Separate, HasColours}
-use Rattle.loop_plan.proofs.plan_exists.Built.{vec_of, items_are}
+use Rattle.loop_plan.proofs.Public.{vec_of, items_are}
 use Rattle.plan_cert.specs.Awaited.{ColoursOf, ColourLists, IsSite, places_in, BlocksClashIn, PlacesClashIn}
 use Rattle.plan_cert.specs.Certified.{lists_of}
 use Rattle.plan_cert.proofs.Deciding.{Known, FirstLine, first_line}

@@ -8,7 +8,7 @@ use Rattle.op_num.specs.declared.refusals.NumRefusal.{NumRefusal}
 use Rattle.op_num.specs.declared.refusals.NumRefusal.TheVariants.{TooLarge}
 use Rattle.op_num.specs.Lines.{line_of}
 use Rattle.op_num.specs.CutLines.{HasNoLf, Unread, unread, IsTaken}
-use Rattle.op_num.proofs.texts.line_texts.Cutting.{one_line}
+use Rattle.op_num.proofs.Public.{one_line}
 use Rattle.local_mesh.specs.declared.types.RankMesh.{RankMesh}
 use Rattle.bound_program.specs.Values.{BoundValue}
 use Rattle.plan_cert.specs.Awaited.{Sizes, sizes_front, IsSizes}

@@ -8,7 +8,7 @@ use Rattle.std.proofs.lemmas.Bool.{false≢true}
 use Rattle.std.proofs.lemmas.List.{append_cancel_left}
 use Rattle.op_num.specs.Spelling.{number_of}
 use Rattle.op_num.specs.CutLines.{words}
-use Rattle.op_num.proofs.texts.line_texts.Cutting.{joined}
+use Rattle.op_num.proofs.Public.{joined}
 use Rattle.loop_plan.specs.Spaced.{spaced}
 use Rattle.plan_cert.specs.Awaited.{AreColours}
 use Rattle.plan_cert.specs.Told.{ToldIs, TellsColours}

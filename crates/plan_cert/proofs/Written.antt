@@ -8,7 +8,7 @@ use Rattle.std.proofs.lemmas.List.{get_or-map, length-map, take_all}
 use Rattle.op_num.specs.Spelling.{number_of}
 use Rattle.op_num.specs.Lines.{line_of, text_of_lines}
 use Rattle.mesh_decl.specs.Mesh.{set_count}
-use Rattle.mesh_decl.proofs.FieldReads.{some_in}
+use Rattle.mesh_decl.proofs.Public.{some_in}
 use Rattle.local_mesh.specs.declared.types.RankMesh.{RankMesh}
 use Rattle.colouring.specs.declared.types.Colours.{Colours}
 use Rattle.bound_program.specs.Values.{BoundValue}
@@ -20,8 +20,7 @@ use Rattle.loop_plan.specs.Places.{maps_of, reducing, runs_free}
 use Rattle.loop_plan.specs.Proper.{Separate, IsSitePlan, Proper}
 use Rattle.loop_plan.specs.PlanText.{Line, halo_line, halo_lines, all_halo_lines, site_line, site_lines, loop_lines, item_line, item_lines, plan_text}
 use Rattle.loop_plan.specs.StepCounts.{exchange_of}
-use Rattle.loop_plan.proofs.SetReads.{sets_at}
-use Rattle.loop_plan.proofs.PlanLines.{halos_more, sites_more, items_more}
+use Rattle.loop_plan.proofs.Public.{sets_at, halos_more, sites_more, items_more}
 use Rattle.plan_cert.specs.Awaited.{ColoursOf, Done, awaited_halo, awaited_set, awaited_halos, awaited_ranks, awaited_sites, awaited_item, awaited_items, awaited, header_line, done_line, ColourLists, AreColours, IsSizes, places_in, FitsLine, FitLines}
 use Rattle.plan_cert.specs.Certified.{all, lists_of, colours_in, Certified}
 use Rattle.plan_cert.specs.Laws.{HasShortColours, WrittenAreCertified}

@@ -1,5 +1,5 @@
-pub mod Counted
-pub mod Lines
-pub mod Sites
-pub mod Tabled
-pub mod Blamed
+mod Counted
+mod Lines
+mod Sites
+mod Tabled
+mod Blamed

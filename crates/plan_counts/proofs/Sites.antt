@@ -13,8 +13,7 @@ use Rattle.loop_plan.specs.Pairs.{sets_of}
 use Rattle.loop_plan.specs.Distributed.{Distributed}
 use Rattle.loop_plan.specs.Proper.{Proper}
 use Rattle.schedule_check.specs.Mail.{IsInside}
-use Rattle.schedule_check.proofs.Distinct.{are_distinct, are_inside}
-use Rattle.schedule_check.proofs.RowReads.{plan_read}
+use Rattle.schedule_check.proofs.Public.{are_distinct, are_inside, plan_read}
 
 -- each rank has the set of each loop
 pub sets_there : (b : BoundValue) (meshes : List RankMesh) (h : Halos) → Fits b → Distributed b.mesh h meshes

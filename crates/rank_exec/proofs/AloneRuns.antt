@@ -14,7 +14,7 @@ use Rattle.rank_state.specs.Groups.{Planned, AllShut, Distinct}
 use Rattle.rank_state.specs.Machine.{State, passed, windows_of}
 use Rattle.rank_state.specs.Shows.{Tables, AreWindows, Shows}
 use Rattle.rank_program.specs.AloneRuns.{AllBegin, Share, Reaches, share_of, with_share}
-use Rattle.rank_program.proofs.AloneRuns.{PairsShow, unchanged, run_passes}
+use Rattle.rank_program.proofs.Public.{PairsShow, unchanged, run_passes}
 use Rattle.rank_state.specs.Frames.{Panes}
 use Rattle.rank_exec.specs.Driving.{Done, ComeReady}
 use Rattle.rank_exec.specs.Rounds.{CanBegin}

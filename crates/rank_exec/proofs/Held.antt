@@ -15,7 +15,7 @@ use Rattle.bound_plan.specs.Setups.{setup_of}
 use Rattle.bound_plan.specs.Layouts.{layout_of}
 use Rattle.rank_state.specs.Machine.{State}
 use Rattle.rank_state.specs.Shows.{Tables, Sized}
-use Rattle.rank_layout.proofs.RankMeshes.{cells_at}
+use Rattle.rank_layout.proofs.Public.{cells_at}
 
 -- rank by rank
 held_from : (g : MeshValue) (ms : List RankMesh) (memories : List (List ℤ)) → length memories ≡ length ms

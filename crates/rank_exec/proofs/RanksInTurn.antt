@@ -11,8 +11,7 @@ use Rattle.rank_state.specs.Machine.{State, row}
 use Rattle.rank_state.specs.Shows.{Tables}
 use Rattle.rank_program.specs.AloneRuns.{Share, Reaches, share_of, with_share}
 use Rattle.rank_program.specs.FromNone.{kept_both, OfElement, with_fault}
-use Rattle.rank_program.proofs.AloneRuns.{PairsShow}
-use Rattle.rank_program.proofs.FromNone.{of_reach, from_none, of_both}
+use Rattle.rank_program.proofs.Public.{PairsShow, of_reach, from_none, of_both}
 use Rattle.rank_state.specs.Frames.{Panes}
 use Rattle.rank_machine.specs.OnRanks.{RanOnRanks}
 use Rattle.rank_exec.specs.Driving.{Done}

@@ -17,7 +17,7 @@ use Rattle.rank_state.specs.Groups.{AllShut}
 use Rattle.rank_state.specs.Machine.{State}
 use Rattle.rank_state.specs.Indices.{values_at}
 use Rattle.rank_state.specs.Shows.{Tables, Indexed, Shows}
-use Rattle.rank_program.proofs.AloneRuns.{PairsShow}
+use Rattle.rank_program.proofs.Public.{PairsShow}
 use Rattle.rank_program.specs.AloneRuns.{Share}
 use Rattle.rank_program.specs.FromNone.{OfElement}
 use Rattle.rank_exec.specs.Driving.{Done, ComeReady}

@@ -22,7 +22,7 @@ use Rattle.bound_plan.specs.Places.{originals, original_at, bases_of, cells_of, 
 use Rattle.bound_plan.specs.Machine.{Stand, ElementsStand}
 use Rattle.rank_layout.specs.First.{first_cells, first_variables, FirstCellsStand, MeshesAreClosed}
 use Rattle.rank_layout.proofs.MessagesStand.{bases_at}
-use Rattle.mesh_decl.proofs.Declared.{in_range}
+use Rattle.mesh_decl.proofs.Public.{in_range}
 use Rattle.rank_layout.proofs.RankMeshes.{sets_at, cells_at, some_at}
 use Rattle.rank_layout.proofs.FirstCells.{whole, cell_is}
 

@@ -1,34 +1,35 @@
-pub mod SeenSoFar
-pub mod Putting
-pub mod SiteArgs
-pub mod Widest
-pub mod TableRows
-pub mod FlatMaps
-pub mod SlotNumbers
-pub mod ScalarLists
-pub mod SiteScalars
-pub mod VariableNumbers
-pub mod ConstantNumbers
-pub mod LoopRows
-pub mod TablesStand
-pub mod ArgVariables
-pub mod ItemLoops
-pub mod RankMeshes
-pub mod StepsStand
-pub mod MessageSpans
-pub mod MessageCells
-pub mod MessagesStand
-pub mod RankWindows
-pub mod WindowsStand
-pub mod FirstCells
-pub mod FirstStand
-pub mod FrameWidths
-pub mod OwnedSpans
-pub mod OwnedStand
-pub mod Sending
-pub mod VariableCells
-pub mod PushedWindows
-pub mod ElementWindows
-pub mod ReduceItems
-pub mod MostPairs
-pub mod Stretches
+mod SeenSoFar
+mod Putting
+mod SiteArgs
+mod Widest
+mod TableRows
+mod FlatMaps
+mod SlotNumbers
+mod ScalarLists
+mod SiteScalars
+mod VariableNumbers
+mod ConstantNumbers
+mod LoopRows
+mod TablesStand
+mod ArgVariables
+mod ItemLoops
+mod RankMeshes
+mod StepsStand
+mod MessageSpans
+mod MessageCells
+mod MessagesStand
+mod RankWindows
+mod WindowsStand
+mod FirstCells
+mod FirstStand
+mod FrameWidths
+mod OwnedSpans
+mod OwnedStand
+mod Sending
+mod VariableCells
+mod PushedWindows
+mod ElementWindows
+mod ReduceItems
+mod MostPairs
+mod Stretches
+pub mod Public

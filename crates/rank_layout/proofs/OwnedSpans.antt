@@ -19,7 +19,7 @@ use Rattle.rank_layout.specs.Seen.{has}
 use Rattle.rank_layout.specs.Placed.{is_dat}
 use Rattle.rank_layout.specs.OwnedWindows.{begins_with, begins_among, with_owned, owned_after}
 use Rattle.rank_layout.proofs.ElementWindows.{run_count}
-use Rattle.run_model.proofs.Reached.{same_true, same_refl}
+use Rattle.run_model.proofs.Public.{same_true, same_refl}
 use Rattle.rank_layout.proofs.SeenSoFar.{different_old, different_new, has_different, has_of, has_append}
 
 begins_self : (s : Owned) → begins_with s s ≡ true

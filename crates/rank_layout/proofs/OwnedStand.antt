@@ -40,7 +40,7 @@ use Rattle.rank_layout.specs.Made.{EachIsScalar}
 use Rattle.rank_layout.specs.MessageLaws.{HasLists}
 use Rattle.rank_layout.specs.OwnedWindows.{begins_with, owned_after, owners_locals, no_owned, owner_at, place_at_owner, owners_span, HasPlace, owned_by, ArgPlaced}
 use Rattle.rank_layout.specs.OwnedLaws.{FramesFit, OwnedStand}
-use Rattle.run_model.proofs.Reached.{same_true}
+use Rattle.run_model.proofs.Public.{same_true}
 use Rattle.rank_layout.proofs.SeenSoFar.{has_of}
 use Rattle.rank_layout.proofs.MessageCells.{one_element}
 use Rattle.rank_layout.proofs.MessagesStand.{bases_at}

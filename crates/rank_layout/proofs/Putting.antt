@@ -15,7 +15,7 @@ use Rattle.bound_plan.specs.Windows.{on_dats, on_variables, dats_first, frame_ce
 use Rattle.rank_layout.specs.Seen.{has}
 use Rattle.rank_layout.specs.Numbered.{number_of, is_one, is_one_at, AreNumbers}
 use Rattle.rank_layout.specs.Placed.{is_dat, IsPut, ArePut, DatsPut, AllPut, reached_at}
-use Rattle.run_model.proofs.Reached.{same_true, same_refl}
+use Rattle.run_model.proofs.Public.{same_true, same_refl}
 use Rattle.rank_layout.proofs.SeenSoFar.{different_old, different_new, has_different, new_in_different, has_old, has_last, old_or_last, start_old, start_new, start_within, cells, cells_more}
 
 -- ---- arguments on dats and on variables

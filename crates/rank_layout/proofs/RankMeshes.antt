@@ -3,7 +3,7 @@ use Rattle.std.proofs.Common.{◌≡◌, ◌<◌, ℕ, List, [], ◌∷◌, leng
 use Rattle.std.proofs.lemmas.List.{get_or-map, get_or_default}
 use Rattle.mesh_decl.specs.declared.owners.Owners.{Owners}
 use Rattle.mesh_decl.specs.declared.owners.Perms.{Perms}
-use Rattle.mesh_decl.proofs.Declared.{in_range}
+use Rattle.mesh_decl.proofs.Public.{in_range}
 use Rattle.local_mesh.specs.declared.types.RankMesh.{RankMesh}
 use Rattle.local_mesh.specs.LocalMesh.{AreClosed, IsRankMesh}
 use Rattle.local_mesh.specs.Numbers.{RankMeshesAreClosed}

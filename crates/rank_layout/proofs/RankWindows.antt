@@ -15,7 +15,7 @@ use Rattle.rank_state.specs.Windows.{cells_from, span_cells}
 use Rattle.rank_layout.specs.Seen.{has}
 use Rattle.rank_layout.specs.Placed.{is_dat}
 use Rattle.rank_layout.specs.DatWindows.{begins_at, with_span, spans_after}
-use Rattle.run_model.proofs.Reached.{same_true, same_refl}
+use Rattle.run_model.proofs.Public.{same_true, same_refl}
 use Rattle.rank_layout.proofs.SeenSoFar.{different_old, different_new, has_different, has_of}
 
 module _ (span : Reached → Span) where

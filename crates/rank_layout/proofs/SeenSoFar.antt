@@ -6,7 +6,7 @@ use Rattle.std.proofs.lemmas.List.{append-nil}
 use Rattle.std.proofs.lemmas.List.FromFn.{length-map-range_with_len}
 use Rattle.bound_program.specs.Values.{BoundValue}
 use Rattle.run_model.specs.Windows.{Reached, is_same, without, different, width, cell_in, cells_in, window_start}
-use Rattle.run_model.proofs.Reached.{same_true, same_refl, not_same}
+use Rattle.run_model.proofs.Public.{same_true, same_refl, not_same}
 use Rattle.rank_layout.specs.Seen.{has}
 
 apart_by : (r q : Reached) (c : Bool) → is_same r q ≡ c → (r ≡ q → ⊥) → is_same r q ≡ false

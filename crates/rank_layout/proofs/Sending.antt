@@ -25,7 +25,7 @@ use Rattle.rank_layout.specs.Messages.{element_span, imports_in, imported_locals
 use Rattle.rank_layout.specs.MessageLaws.{HasLists, ExportsStand, ImportsStand}
 use Rattle.rank_layout.specs.SendLaws.{pair_spans, FewExports, ExportsAreFew, MessagesHaveRoom, RoomsStand, HasSpans, SendsStand, ReceivesStand}
 use Rattle.rank_layout.proofs.MessagesStand.{exports_at, imports_at, bases_at, set_there, exchange_there, local_exports, local_imports}
-use Rattle.mesh_decl.proofs.Declared.{in_range}
+use Rattle.mesh_decl.proofs.Public.{in_range}
 use Rattle.rank_layout.proofs.RankMeshes.{some_at, cells_at}
 use Rattle.rank_layout.proofs.ElementWindows.{spans_count}
 

@@ -22,8 +22,7 @@ use Rattle.rank_state.specs.Windows.{operation, scalar_cells, has_slot}
 use Rattle.rank_state.specs.Joins.{has_index}
 use Rattle.bound_plan.specs.Variables.{reduction_of, reduced_by, cells_before, variable_at, reduces_at}
 use Rattle.bound_plan.specs.Windows.{on_variables}
-use Rattle.bound_plan.proofs.Globals.{named_once}
-use Rattle.bound_plan.proofs.Indexed.{indexed, is_variable}
+use Rattle.bound_plan.proofs.Public.{named_once, indexed, is_variable}
 use Rattle.rank_layout.specs.Numbered.{ArgNamed}
 use Rattle.rank_layout.specs.Tables.{Slot, no_slot, slots_by, arg_slots, slots}
 use Rattle.rank_layout.specs.Made.{IsSiteScalar, EachIsScalar, AreSiteScalars}

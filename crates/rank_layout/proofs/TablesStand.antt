@@ -23,8 +23,7 @@ use Rattle.bound_plan.specs.Setups.{setup_of}
 use Rattle.bound_plan.specs.Layouts.{layout_of}
 use Rattle.bound_plan.specs.Variables.{variable_index, variable_at, reduced_by, reduces_at}
 use Rattle.bound_plan.specs.Laws.{CellsHaveOneIndex}
-use Rattle.bound_plan.proofs.Indexed.{indexed}
-use Rattle.bound_plan.proofs.Globals.{first_reduces}
+use Rattle.bound_plan.proofs.Public.{indexed, first_reduces}
 use Rattle.rank_layout.specs.Tables.{Slot, no_slot, slots, most, places_on, tables_of}
 use Rattle.rank_layout.specs.Made.{EachIsScalar}
 use Rattle.rank_layout.specs.TableLaws.{TablesAreIndexed, SlotsStand, PlacesStand, ScalarsStand}

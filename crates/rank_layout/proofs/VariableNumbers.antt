@@ -11,7 +11,7 @@ use Rattle.run_model.specs.Arguments.{var_width}
 use Rattle.run_model.specs.Memory.{var_start, memory_length}
 use Rattle.run_model.specs.Variables.{of_vars, VarsBegin, VariablesHold}
 use Rattle.bound_plan.specs.Variables.{cells_before}
-use Rattle.bound_plan.proofs.Indexed.{indexed}
+use Rattle.bound_plan.proofs.Public.{indexed}
 
 -- a variable, as it is read
 pub var_read : (vars : List Var) (v : ℕ) (x : Var) → v < length vars → x ≡ get_or vars v x → get_or (map var_of vars) v no_var ≡ var_of x

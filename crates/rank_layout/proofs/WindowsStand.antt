@@ -29,7 +29,7 @@ use Rattle.rank_layout.specs.Seen.{has}
 use Rattle.rank_layout.specs.Placed.{is_dat}
 use Rattle.rank_layout.specs.DatWindows.{local_by, begins_at, with_span, spans_after, ViaHere, ArgHere}
 use Rattle.rank_layout.specs.WindowLaws.{arg_span, AreDatWindows, IsPlaceOf, DatWindowsStand, ArgsAreHere, ArgsHaveCells}
-use Rattle.run_model.proofs.Reached.{same_true}
+use Rattle.run_model.proofs.Public.{same_true}
 use Rattle.rank_layout.proofs.SeenSoFar.{has_of}
 use Rattle.rank_layout.proofs.MessageCells.{one_element}
 use Rattle.rank_layout.proofs.MessagesStand.{bases_at}

@@ -1,4 +1,5 @@
-pub mod FromIndex
-pub mod Values
-pub mod OnRanks
+mod FromIndex
+mod Values
+mod OnRanks
 mod Sharing
+pub mod Public

@@ -7,7 +7,7 @@ use Rattle.rank_state.specs.Indices.{values_at}
 use Rattle.rank_state.specs.Machine.{State, row}
 use Rattle.rank_state.specs.Shows.{Sized}
 use Rattle.rank_state.specs.Spare.{HasSpare}
-use Rattle.rank_state.proofs.rank_memory.Views as views
+use Rattle.rank_state.proofs.Public as views
 use Rattle.rank_program.specs.declared.program.DistributedProgram.{DistributedProgram}
 use Rattle.rank_program.specs.AloneRuns.{AllBegin, Share, Reaches, share_of}
 use Rattle.rank_program.specs.FromNone.{with_fault}

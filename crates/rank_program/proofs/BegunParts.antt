@@ -7,7 +7,7 @@ use Rattle.mesh_decl.specs.Owners.{owner_of}
 use Rattle.local_mesh.specs.Halo.{owns}
 use Rattle.local_mesh.specs.LocalMesh.{originals_in}
 use Rattle.local_mesh.specs.Numbers.{OwnedComeFirst, own_in}
-use Rattle.rank_layout.proofs.RankMeshes.{rank_mesh, sets_at, some_at}
+use Rattle.rank_layout.proofs.Public.{rank_mesh, sets_at, some_at}
 use Rattle.local_mesh.specs.declared.types.RankMesh.{RankMesh}
 use Rattle.local_mesh.specs.Lists.{sets_of, originals_of}
 use Rattle.schedule_steps.specs.declared.step.Step.TheVariants.{Begin}

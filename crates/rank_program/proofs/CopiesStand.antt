@@ -14,7 +14,7 @@ use Rattle.bound_plan.specs.Layouts.{layout_of}
 use Rattle.rank_program.specs.Copies.{IsOwnersCopy}
 use Rattle.rank_layout.specs.MessageLaws.{HasLists}
 use Rattle.rank_layout.specs.OwnedWindows.{owners_span}
-use Rattle.rank_layout.proofs.OwnedStand.{rank_of, value_at, has_place}
+use Rattle.rank_layout.proofs.Public.{rank_of, value_at, has_place}
 use Rattle.rank_program.specs.CopyLaws.{CopiesStand}
 
 copy_is : (b : BoundValue) (o : Owners) (n : Perms) (meshes : List RankMesh) (p : PlanValue) (h : Halos) (lists : List LocalLists)

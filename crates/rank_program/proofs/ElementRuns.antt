@@ -20,8 +20,7 @@ use Rattle.rank_state.specs.Core.{fault_of}
 use Rattle.rank_state.specs.Frames.{Pane, Shut, Broken, Holds, pane_after, closed}
 use Rattle.rank_state.specs.Machine.{merged_pane, noted}
 use Rattle.rank_state.specs.Shows.{AreWindows}
-use Rattle.rank_state.proofs.Counted.{windows_counted}
-use Rattle.rank_state.proofs.Scatters.{scattered_length}
+use Rattle.rank_state.proofs.Public.{windows_counted, scattered_length}
 use Rattle.rank_program.specs.AloneRuns.{RunsAt}
 use Rattle.kernel_runs.specs.Here.{core_on_gathered}
 use Rattle.rank_program.specs.declared.program.DistributedProgram.{DistributedProgram}

@@ -35,7 +35,7 @@ use Rattle.rank_state.specs.declared.scalars.Scalar.{Scalar}
 use Rattle.rank_state.specs.Spans.{Within, gathered}
 use Rattle.rank_state.specs.Windows.{scalar_cells, Marked}
 use Rattle.rank_state.specs.Shows.{AreWindows}
-use Rattle.rank_state.proofs.Counted.{windows_counted}
+use Rattle.rank_state.proofs.Public.{windows_counted}
 use Rattle.kernel_runs.specs.Saving.{place_cells}
 use Rattle.kernel_runs.specs.InPlace.{NameTheSame}
 use Rattle.kernel_runs.specs.Here.{IsHere, core_on_gathered}
@@ -57,9 +57,8 @@ use Rattle.rank_program.proofs.Buffer.{buffer_cell, buffer_cells, in_front, in_t
 use Rattle.rank_program.specs.LocalLoops.{StandsBehind}
 use Rattle.rank_program.proofs.Behind.{scalars_count, scalars_apart, scalars_changed, one_scalar, all_behind}
 use Rattle.rank_program.proofs.HereStands.{is_changed, name_the_same, spans_apart, unwritten_read, written_marked}
-use Rattle.rank_layout.proofs.ItemLoops.{args_are}
+use Rattle.rank_layout.proofs.Public.{args_are, cells_at, some_at}
 use Rattle.rank_program.proofs.LocalArgs.{same_places, in_buffer}
-use Rattle.rank_layout.proofs.RankMeshes.{cells_at, some_at}
 
 -- ---- places
 

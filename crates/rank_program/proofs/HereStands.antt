@@ -19,14 +19,14 @@ use Rattle.bound_program.specs.Values.{BoundValue, SiteValue}
 use Rattle.bound_program.specs.Classes.{is_read, passes, all_on, modifies}
 use Rattle.run_model.specs.Windows.{reached, cell_in, window_of, targets}
 use Rattle.run_model.specs.Arguments.{no_arg, arg_at, arg_width, mode_of, modes_of, cell_of}
-use Rattle.run_model.proofs.Windows.{is_argument}
+use Rattle.run_model.proofs.Public.{is_argument}
 use Rattle.bound_plan.specs.Windows.{dats_first, frame_cells, frame_windows}
 use Rattle.rank_state.specs.declared.spans.Span.{Span}
 use Rattle.rank_state.specs.Spans.{Within, total}
 use Rattle.rank_state.specs.Windows.{Marked}
 use Rattle.kernel_runs.specs.Standing.{stands_at, is_written, Apart}
 use Rattle.kernel_runs.specs.InPlace.{NameTheSame}
-use Rattle.kernel_runs.proofs.in_place.Standings.{in_first, in_rest, first_written, rest_written, by_span, stands_within}
+use Rattle.kernel_runs.proofs.Public.{in_first, in_rest, first_written, rest_written, by_span, stands_within}
 use Rattle.rank_layout.specs.Made.{writes_by}
 use Rattle.rank_program.specs.Here.{span_place}
 use Rattle.rank_program.proofs.Buffer.{run_cells, buffer_cells}

@@ -1,9 +1,9 @@
-pub mod ItemParts
-pub mod KernelRun
-pub mod ProgramRun
-pub mod BegunParts
+mod ItemParts
+mod KernelRun
+mod ProgramRun
+mod BegunParts
 mod CopiesStand
-pub mod Runnables
+mod Runnables
 mod Tails
 mod Buffer
 mod HereStands
@@ -12,13 +12,13 @@ mod ElementScalars
 mod LocalArgs
 mod HereParts
 mod ElementRuns
-pub mod Windowed
+mod Windowed
 mod JobTargets
 mod LocalLoops
 mod LocalElements
 mod LeastOfThree
-pub mod AloneRuns
-pub mod FromNone
+mod AloneRuns
+mod FromNone
 mod JobWindows
 mod RowArgs
 mod RowWays
@@ -33,3 +33,4 @@ mod TableFronts
 mod RowLoopsMade
 mod BatchRuns
 mod RowsGoOn
+pub mod Public

@@ -28,7 +28,7 @@ use Rattle.rank_program.specs.LocalLoops.{IsLoopOf}
 use Rattle.rank_program.specs.Sound.{Sound, program_in, plan_in, setup_in, layout_in, tables_in}
 use Rattle.rank_layout.specs.StepLaws.{IsBegin, StepsStand}
 use Rattle.rank_layout.specs.WindowLaws.{ElementWindowsStand}
-use Rattle.rank_layout.proofs.RankMeshes.{cells_at}
+use Rattle.rank_layout.proofs.Public.{cells_at}
 use Rattle.rank_program.proofs.BegunParts.{begins}
 use Rattle.rank_program.proofs.ElementScalars.{are_read, have_slots}
 use Rattle.rank_program.proofs.HereParts.{site_fits, windows_here, few_scalars}

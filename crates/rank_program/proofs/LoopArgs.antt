@@ -17,7 +17,7 @@ use Rattle.run_model.specs.Windows.{reached, cell_in}
 use Rattle.run_model.specs.Laws as the
 use Rattle.bound_plan.specs.Laws.{FramesAreReached}
 use Rattle.bound_plan.specs.Places.{original_at, cell_at}
-use Rattle.bound_plan.proofs.Trace.{class_is}
+use Rattle.bound_plan.proofs.Public.{class_is}
 use Rattle.kernel_runs.specs.Ways.{local_in}
 use Rattle.kernel_runs.specs.declared.row_batches.batch_tables.args.LocalArg.{LocalArg}
 use Rattle.kernel_runs.specs.Alike.{arg_in, same_column}

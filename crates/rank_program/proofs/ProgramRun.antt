@@ -10,7 +10,7 @@ use Rattle.bound_program.specs.Fits.{Fits, SiteFits}
 use Rattle.run_model.specs.Laws as laws
 use Rattle.run_model.specs.Laws.{LoopsAreThere}
 use Rattle.run_model.specs.Programs.{item_at, kind_of, loop_of}
-use Rattle.rank_layout.proofs.Widest.{site_at}
+use Rattle.rank_layout.proofs.Public.{site_at}
 use Rattle.rank_program.proofs.ItemParts.{site_fits, kernel_there}
 
 module _ (b : BoundValue) (fits : Fits b) (there : LoopsAreThere) (k n : ℕ) (is : is_loop (kind_of (item_at b k)) ≡ true)

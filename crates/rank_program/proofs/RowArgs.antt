@@ -17,8 +17,7 @@ use Rattle.bound_program.specs.Classes.{class_of, is_read}
 use Rattle.bound_program.specs.Fits.{GlobalAccess, AreApart, AllApart}
 use Rattle.run_model.specs.Arguments.{no_arg, argument_of}
 use Rattle.bound_plan.specs.Variables.{reduction_of, reduced_by}
-use Rattle.bound_plan.proofs.DatArgs.{free_is}
-use Rattle.bound_plan.proofs.Globals.{reduction_is, first_reduces}
+use Rattle.bound_plan.proofs.Public.{free_is, reduction_is, first_reduces}
 use Rattle.rank_state.specs.declared.scalars.Operation.{Operation}
 use Rattle.rank_state.specs.declared.scalars.Scalar.{Scalar}
 use Rattle.rank_state.specs.declared.scalars.Scalar.TheVariants.{Value, Amount}

@@ -21,7 +21,7 @@ use Rattle.bound_program.specs.Values.{BoundValue, SiteValue}
 use Rattle.run_model.specs.Arguments.{no_arg, arg_width, access_by, mode_of, modes_of, var_width}
 use Rattle.run_model.specs.Programs.{item_at, loop_of}
 use Rattle.run_model.specs.Laws as the
-use Rattle.run_model.proofs.Windows.{is_argument}
+use Rattle.run_model.proofs.Public.{is_argument}
 use Rattle.bound_plan.specs.Laws.{FramesAreReached}
 use Rattle.bound_plan.specs.Places.{original_at, cell_at}
 use Rattle.bound_plan.specs.Variables.{variable_at}

@@ -12,7 +12,7 @@ use Rattle.bound_program.specs.Values.{BoundValue}
 use Rattle.bound_program.specs.Fits.{GlobalAccess, AllApart, site_at}
 use Rattle.run_model.specs.Arguments.{no_arg, var_width}
 use Rattle.bound_plan.specs.Variables.{variable_at, reduced_by, reduces_at}
-use Rattle.bound_plan.proofs.Globals.{Reducing, reduced_some}
+use Rattle.bound_plan.proofs.Public.{Reducing, reduced_some}
 use Rattle.rank_state.specs.declared.scalars.Operation.{Operation}
 use Rattle.rank_state.specs.declared.scalars.Operation.TheVariants.{Sum, Least, Greatest}
 use Rattle.rank_state.specs.declared.scalars.Scalar.{Scalar}
@@ -113,7 +113,7 @@ module _ (b : BoundValue) (s : ℕ) where
               is = found.is;
               below = ltb-true w.component (var_width b w.variable) t;
               reduction = o;
-              how = Rattle.bound_plan.proofs.Globals.reduction_is found.access o found.how;
+              how = Rattle.bound_plan.proofs.Public.reduction_is found.access o found.how;
               cell = cell_is xs j lt ∙ ap Variable is;
             }
         of_cell w o is false t h =

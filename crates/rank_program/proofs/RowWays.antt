@@ -15,7 +15,7 @@ use Rattle.kernel_runs.specs.RowLoops.{column_at}
 use Rattle.kernel_runs.specs.declared.row_batches.batch_tables.args.LocalArg.{LocalArg}
 use Rattle.kernel_runs.specs.Alike.{arg_in, same_way, IsFirst}
 use Rattle.kernel_runs.specs.Tables.{via_of, local_at, AreWays, AreColumns, ArePairs, IsStored}
-use Rattle.kernel_runs.proofs.row_batches.batch_tables.Firsts.{unique}
+use Rattle.kernel_runs.proofs.Public.{unique}
 use Rattle.rank_program.proofs.RowArgs.{same_way_is, same_way_of, first_way_again}
 
 -- each argument has a first one that is like it

@@ -6,7 +6,7 @@ use Rattle.rank_state.specs.declared.spans.Span.{Span}
 use Rattle.rank_state.specs.declared.scalars.Scalar.{Scalar}
 use Rattle.rank_state.specs.Spans.{Within, total, with_window, cells_at, gathered, scattered}
 use Rattle.rank_state.specs.Frames.{Pane, Shut, Broken, Holds, closed}
-use Rattle.rank_state.proofs.Scatters.{window_length, scattered_length}
+use Rattle.rank_state.proofs.Public.{window_length, scattered_length}
 
 -- a span of one cell for each scalar, from an index on
 abbrev pub scalar_spans : ℕ → List Scalar → List Span

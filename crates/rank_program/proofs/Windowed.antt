@@ -25,7 +25,7 @@ use Rattle.rank_layout.specs.Made.{AreMade, row_of}
 use Rattle.rank_layout.specs.StepLaws.{StepsStand}
 use Rattle.rank_layout.specs.Tables.{tables_of}
 use Rattle.rank_layout.specs.WindowLaws.{arg_span, ElementWindowsStand}
-use Rattle.rank_layout.proofs.RankMeshes.{some_at}
+use Rattle.rank_layout.proofs.Public.{some_at}
 
 module _ (b : BoundValue) (o : Owners) (n : Perms) (meshes : List RankMesh) (p : PlanValue) (planned : Planned b o n meshes p)
     (lists : List LocalLists) (t : MachineTables) (made : AreMade b o p lists t) (stand : StepsStand) (windows : ElementWindowsStand) where

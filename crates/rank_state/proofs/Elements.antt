@@ -18,7 +18,7 @@ use Rattle.rank_state.specs.Shows.{Tables, Indexed, Shows}
 use Rattle.rank_state.specs.Ordered.{total_all, gathered_all, scattered_all, index_cells, put_values, owned_cells, OwnedBy, InVariables, AreOwned, put_back, all_windows}
 use Rattle.rank_state.specs.Indices.{values_at}
 use Rattle.rank_state.proofs.Scatters.{LookUp}
-use Rattle.schedule_model.proofs.flat_machine.Rows.{updated_at, updated_length, rows_length, rows_at}
+use Rattle.schedule_model.proofs.Public.{updated_at, updated_length, rows_length, rows_at}
 use Rattle.rank_state.proofs.Ordered.{row_looked_up, scatter_wide}
 
 -- the values of a part of a buffer

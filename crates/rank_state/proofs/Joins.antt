@@ -14,7 +14,7 @@ use Rattle.rank_state.specs.declared.scalars.Scalar.{Scalar}
 use Rattle.rank_state.specs.Machine.{State}
 use Rattle.rank_state.specs.Shows.{Tables, Shows}
 use Rattle.rank_state.specs.Joins.{reduced, AreReduced}
-use Rattle.schedule_model.proofs.flat_machine.Rows.{updated_at, updated_length}
+use Rattle.schedule_model.proofs.Public.{updated_at, updated_length}
 use Rattle.rank_state.proofs.Reduces.{reduce_shows}
 
 -- the law that the least fault is enough

@@ -1,20 +1,21 @@
-pub mod Gathers
-pub mod Posts
-pub mod Scatters
-pub mod Panes
-pub mod Faults
-pub mod Amounts
-pub mod Reduces
-pub mod Can
-pub mod Joins
-pub mod Ordered
-pub mod Elements
-pub mod Loops
-pub mod Starting
-pub mod Messages
-pub mod Steps
-pub mod Ready
-pub mod Opening
-pub mod Groups
-pub mod Counted
-pub mod Passing
+mod Gathers
+mod Posts
+mod Scatters
+mod Panes
+mod Faults
+mod Amounts
+mod Reduces
+mod Can
+mod Joins
+mod Ordered
+mod Elements
+mod Loops
+mod Starting
+mod Messages
+mod Steps
+mod Ready
+mod Opening
+mod Groups
+mod Counted
+mod Passing
+pub mod Public

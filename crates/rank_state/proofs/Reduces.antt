@@ -18,7 +18,7 @@ use Rattle.rank_state.specs.Machine.{State}
 use Rattle.rank_state.specs.Shows.{Tables, IsScalar, AreScalars, Shows}
 use Rattle.rank_state.specs.Joins.{merge_rows, reduce_one, reduce_all, unite_one, unite, reduced, has_index, AreReduced}
 use Rattle.rank_state.proofs.Amounts.{slot_site}
-use Rattle.schedule_model.proofs.flat_machine.Rows.{updated_at, updated_length}
+use Rattle.schedule_model.proofs.Public.{updated_at, updated_length}
 
 pub reduce_length : (rows : List (List ℤ)) (n : ℕ) (xs : List Scalar) (vs : List ℤ) → length (reduce_all rows n xs vs) ≡ length vs
 reduce_length rows n [] vs = refl

@@ -1,18 +1,19 @@
-pub mod Reached
-pub mod Places
-pub mod Windows
-pub mod Reaches
-pub mod OnWindows
-pub mod Tiling
-pub mod Constants
-pub mod Elements
-pub mod OnlyRead
-pub mod Stops
-pub mod Memory
-pub mod OnMemory
-pub mod Parts
-pub mod FirstMemory
-pub mod Assignments
-pub mod Items
-pub mod HostRange
-pub mod Runs
+mod Reached
+mod Places
+mod Windows
+mod Reaches
+mod OnWindows
+mod Tiling
+mod Constants
+mod Elements
+mod OnlyRead
+mod Stops
+mod Memory
+mod OnMemory
+mod Parts
+mod FirstMemory
+mod Assignments
+mod Items
+mod HostRange
+mod Runs
+pub mod Public

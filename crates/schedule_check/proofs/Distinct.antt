@@ -8,7 +8,7 @@ use Rattle.local_mesh.specs.Halo.{owns, imports_execute, imports_nonexecute}
 use Rattle.local_mesh.specs.declared.types.LocalSet.{LocalSet}
 use Rattle.local_mesh.specs.declared.types.RankMesh.{RankMesh}
 use Rattle.local_mesh.specs.LocalMesh.{originals_in, executed_in, IsLocalSet, IsRankMesh}
-use Rattle.local_mesh.proofs.Numbered.{number_apart}
+use Rattle.local_mesh.proofs.Public.{number_apart}
 use Rattle.bound_program.specs.Values.{BoundValue}
 use Rattle.loop_plan.specs.declared.types.ItemPlan.{ItemPlan}
 use Rattle.loop_plan.specs.Values.{PlanValue, ItemPlanValue, item_plan, item_plan_of, no_item_plan}
@@ -16,9 +16,7 @@ use Rattle.loop_plan.specs.ItemPlans.{plan_in}
 use Rattle.loop_plan.specs.Pairs.{sets_of, own_in, passes, pairs_below}
 use Rattle.loop_plan.specs.Distributed.{Distributed}
 use Rattle.loop_plan.specs.Proper.{Proper}
-use Rattle.loop_plan.proofs.SetReads.{own_within}
-use Rattle.loop_plan.proofs.Exporting.{executed_held, sets_counted}
-use Rattle.loop_plan.proofs.PlanWriting.{exchanges_are_dats}
+use Rattle.loop_plan.proofs.Public.{own_within, executed_held, sets_counted, exchanges_are_dats}
 use Rattle.schedule_check.specs.Mail.{AreDistinct, IsInside}
 use Rattle.schedule_check.proofs.Holds.{holds, in_range, pair_holds}
 use Rattle.lemmas.proofs.Lists.{element_at}

@@ -8,7 +8,7 @@ use Rattle.lemmas.specs.Below.{listed}
 use Rattle.step_judge.specs.Item.{pair_at}
 use Rattle.loop_plan.specs.Pairs.{pair, pairs_below}
 use Rattle.loop_plan.specs.declared.types.Pair.{Pair}
-use Rattle.loop_plan.proofs.Numbers.{is_listed, not_listed}
+use Rattle.loop_plan.proofs.Public.{is_listed, not_listed}
 use Rattle.schedule_check.specs.Froms.{froms, tos}
 use Rattle.std.proofs.Math.Bool.{or-false}
 

@@ -1,13 +1,14 @@
-pub mod PlaceReads
-pub mod PlanReads
-pub mod Holds
-pub mod FreshItems
-pub mod ItemPairs
-pub mod Loops
-pub mod PlanMarks
-pub mod Owning
-pub mod RowReads
-pub mod Distinct
-pub mod Rooms
-pub mod OfPlan
-pub mod TakingAll
+mod PlaceReads
+mod PlanReads
+mod Holds
+mod FreshItems
+mod ItemPairs
+mod Loops
+mod PlanMarks
+mod Owning
+mod RowReads
+mod Distinct
+mod Rooms
+mod OfPlan
+mod TakingAll
+pub mod Public

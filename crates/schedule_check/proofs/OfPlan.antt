@@ -12,13 +12,11 @@ use Rattle.schedule_steps.specs.Judged.{is_step}
 use Rattle.step_judge.specs.declared.marks.load.Load.{Load}
 use Rattle.step_judge.specs.Item.{pair_at}
 use Rattle.step_judge.specs.Marked.{Marked, item_at, outline_of, taken}
-use Rattle.step_judge.proofs.marks.Pairs.{pair_found}
+use Rattle.step_judge.proofs.Public.{pair_found, own, judged_well}
 use Rattle.step_judge.specs.declared.refusal.ScheduleRefusal.{ScheduleRefusal}
 use Rattle.step_judge.specs.Verdicts.{judged}
 use Rattle.step_judge.specs.Wanted.{AreMarksOf}
 use Rattle.step_judge.specs.Checking.{Checking, cells_in, cells_of, step_cells, TakesStep}
-use Rattle.step_judge.proofs.Own.{own}
-use Rattle.step_judge.proofs.Room.{judged_well}
 use Rattle.bound_program.specs.Values.{BoundValue}
 use Rattle.loop_plan.specs.declared.types.Pair.{Pair}
 use Rattle.loop_plan.specs.declared.types.ItemPlan.{ItemPlan}

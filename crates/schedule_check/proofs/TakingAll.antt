@@ -20,7 +20,7 @@ use Rattle.step_judge.specs.declared.refusal.ScheduleRefusal.TheVariants.{NoSuch
 use Rattle.step_judge.specs.Verdicts.{too_early, judged, incomplete, finished}
 use Rattle.step_judge.specs.Checking.{untaken}
 use Rattle.step_judge.specs.TakenAll.{TakenAll}
-use Rattle.step_judge.proofs.Room.{one_fewer, judged_well}
+use Rattle.step_judge.proofs.Public.{one_fewer, judged_well}
 use Rattle.bound_program.specs.Values.{BoundValue}
 use Rattle.loop_plan.specs.Values.{PlanValue}
 use Rattle.loop_plan.specs.StepOutline.{step_outline}

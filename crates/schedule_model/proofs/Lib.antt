@@ -1,16 +1,17 @@
-pub mod Fold
-pub mod History
-pub mod Runs
-pub mod Law
-pub mod Marks
-pub mod Least
-pub mod Sequence
-pub mod Range
-pub mod Facts
-pub mod Inv
-pub mod Messages
-pub mod Elements
-pub mod Stops
-pub mod Joins
-pub mod Whole
-pub mod Kept
+mod Fold
+mod History
+mod Runs
+mod Law
+mod Marks
+mod Least
+mod Sequence
+mod Range
+mod Facts
+mod Inv
+mod Messages
+mod Elements
+mod Stops
+mod Joins
+mod Whole
+mod Kept
+pub mod Public

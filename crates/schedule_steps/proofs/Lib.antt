@@ -1,13 +1,14 @@
-pub mod ByTurns
-pub mod Keys
-pub mod Layers
-pub mod Standard
-pub mod Picks
-pub mod Own
-pub mod Ready
-pub mod Drawn
-pub mod Judged
-pub mod UnderWay
-pub mod Alike
-pub mod Peaks
-pub mod FirstElements
+mod ByTurns
+mod Keys
+mod Layers
+mod Standard
+mod Picks
+mod Own
+mod Ready
+mod Drawn
+mod Judged
+mod UnderWay
+mod Alike
+mod Peaks
+mod FirstElements
+pub mod Public

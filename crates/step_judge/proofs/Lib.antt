@@ -1,7 +1,8 @@
-pub mod FirstPlaces
-pub mod Firsts
-pub mod Judging
-pub mod Own
-pub mod Room
-pub mod FreshMarks
-pub mod TakenWhole
+mod FirstPlaces
+mod Firsts
+mod Judging
+mod Own
+mod Room
+mod FreshMarks
+mod TakenWhole
+pub mod Public

@@ -1,13 +1,13 @@
-pub mod Cuts
-pub mod Places
-pub mod Whole
-pub mod Buckets
-pub mod Counted
-pub mod Flat
-pub mod Blocks
-pub mod Windows
-pub mod Cutting
-pub mod KeyPieces
-pub mod RunOrder
-pub mod RankSteps
-pub mod AloneRuns
+mod Cuts
+mod Places
+mod Whole
+mod Buckets
+mod Counted
+mod Flat
+mod Blocks
+mod Windows
+mod Cutting
+mod KeyPieces
+mod RunOrder
+mod RankSteps
+mod AloneRuns

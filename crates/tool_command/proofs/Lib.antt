@@ -1,3 +1,3 @@
-pub mod Wording
-pub mod Ended
-pub mod Weaker
+mod Wording
+mod Ended
+mod Weaker

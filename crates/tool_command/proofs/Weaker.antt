@@ -5,7 +5,7 @@ use Rattle.command_words.specs.Lines.{refused}
 use Rattle.command_words.specs.declared.answer_lines.call_answer.Answer.{Answer}
 use Rattle.command_words.specs.declared.answer_lines.refusals.Halt.{Halt}
 use Rattle.command_words.specs.Halts.{answer_of}
-use Rattle.command_words.proofs.answer_lines.Halts.{stops_weaker}
+use Rattle.command_words.proofs.Public.{stops_weaker}
 use Rattle.job_inputs.specs.Chains.{AnswersBy}
 
 pub by_weaker : (P Q : lines.Answer → Type 0) (r : Result Answer Halt) → ((a : lines.Answer) → P a → Q a) → AnswersBy P r → AnswersBy Q r

@@ -1,2 +1,2 @@
-pub mod Asking
-pub mod Within
+mod Asking
+mod Within

@@ -9,7 +9,7 @@ use Rattle.clap.specs.declared.error.kind.ErrorKind.{ErrorKind}
 use Rattle.clap.specs.declared.error.kind.ErrorKind.TheVariants as kind
 use Rattle.command_words.specs.Words.{Options, ChainOptions, OptionWords, options_of, chain_options_of, runs_nothing}
 use Rattle.command_words.specs.Laws.{AreFew, AreWithin, OptionWordsAreWithin}
-use Rattle.command_words.proofs.Within.{Holds, Any, any, holds_if, holds_then, holds_map}
+use Rattle.command_words.proofs.Public.{Holds, Any, any, holds_if, holds_then, holds_map}
 use Rattle.tool_words.specs.Words.{TakesOwners, Picture, PlanJob, TellsOwners, Counts, Draws, Grids, Command, OnProgram, OnPlan, OwnWords, Given, command, where_so, earlier_than, has_no_option, has_metis_alone, has_ranks_alone, has_picture_alone, has_grid_alone, has_plain_alone, has_mesh_alone, counted, small_number, scale_by, dimension_by, converted, picture_in, pictured, picked, graphed, planned, taken, owned, by_name, given_in, asked, by_kind, MatchesAre, WordsAreWith, call_in}
 use Rattle.tool_words.specs.Ranges.{IsWithin}
 use Rattle.tool_words.specs.declared.asked.Asked.{Asked}

@@ -36,8 +36,8 @@ use Rattle.loop_bind.specs.Arguments.{with_extern, extern_var, after_global, aft
 use Rattle.loop_bind.specs.Text.{nested, turning, line_found, declares, judged_call, opened, followed_by, ended, with_counter, judged_bounds, judged_host, judged_hosts}
 use Rattle.loop_bind.specs.Sources.{HasNumbers, IsRead, TopIsRead, HostIsRead, HostsAreRead}
 use Rattle.loop_bind.specs.Bound.{text}
-use Rattle.main_declarations.proofs.Judged.{Gives, gives_then, gives_unless}
-use Rattle.loop_bind.proofs.FitsState.{known-fits}
+use Rattle.main_declarations.proofs.Public.{Gives, gives_then, gives_unless}
+use Rattle.loop_bind.proofs.Public.{known-fits}
 use Rattle.answers.proofs.laws.SpelledValues.{Num, zero_num, AllNum, nums_same, VarsNum, vars_push, DatsNum, dats_push, EntryNum, EntriesNum, values_num, array_num}
 use Rattle.answers.proofs.laws.ExpressionValues.{Nums, MeaningNum, NameNum, NamesNum, ScopeNum, means_num, static_num, value_is_num}
 

@@ -10,7 +10,7 @@ use Rattle.kernel_model.specs.View.{RExprTree, Number, Scalar, Constant, Arg, Lo
 use Rattle.kernel_model.specs.Numbers.{Value, is_zero, is_settled}
 use Rattle.kernel_model.specs.Operators.{IsNumber}
 use Rattle.kernel_model.specs.Meaning.{and_then, index_in}
-use Rattle.kernel_model.proofs.Ranges.{operators_stay_in_range}
+use Rattle.kernel_model.proofs.Public.{operators_stay_in_range}
 use Rattle.mesh_decl.specs.declared.text.entry.Form.TheVariants as form
 use Rattle.bound_program.specs.declared.refusals.refusals.BindRefusal.TheVariants as refusal
 use Rattle.bound_program.specs.Refusals.{found_if}
@@ -22,7 +22,7 @@ use Rattle.main_declarations.specs.Expressions.{read, resolved, asked, known, fi
 use Rattle.bound_program.specs.Steps.{Asked}
 use Rattle.bound_program.specs.Trace.{number}
 use Rattle.loop_bind.specs.Sources.{HasNumbers}
-use Rattle.main_declarations.proofs.Judged.{Gives, gives_then, gives_unless}
+use Rattle.main_declarations.proofs.Public.{Gives, gives_then, gives_unless}
 use Rattle.answers.proofs.laws.SpelledValues.{Num, zero_num, AllNum, num_at}
 
 -- ---- expressions

@@ -37,7 +37,7 @@ use Rattle.loop_bind.specs.Arguments.{with_extern, extern_var, after_global, aft
 use Rattle.loop_bind.specs.Text.{nested, turning, line_found, declares, judged_call, opened, followed_by, ended, with_counter, judged_bounds, judged_host, judged_hosts}
 use Rattle.loop_bind.specs.Weights.{started, with_told}
 use Rattle.loop_bind.specs.Bound.{text}
-use Rattle.main_declarations.proofs.Judged.{Gives, gives_then, gives_weaker, gives_unless, gives_any}
+use Rattle.main_declarations.proofs.Public.{Gives, gives_then, gives_weaker, gives_unless, gives_any}
 use Rattle.checkpoint.specs.Cut.{starts}
 
 -- ---- variables that aren't `const`

@@ -22,7 +22,7 @@ use Rattle.main_declarations.specs.File.{judged_tops}
 use Rattle.loop_bind.specs.Text.{outermost, judged_hosts}
 use Rattle.loop_bind.specs.Weights.{within_weight, weight_of_all, trace}
 use Rattle.loop_bind.specs.Bound.{text, happens, finished, unrolled_text, bound}
-use Rattle.main_declarations.proofs.Judged.{Gives, gives_then, gives_weaker, gives_any}
+use Rattle.main_declarations.proofs.Public.{Gives, gives_then, gives_weaker, gives_any}
 use Rattle.run_model.specs.Windows.{numbers}
 use Rattle.checkpoint.specs.Cut.{CanCut, starts, says, says_var, says_vars, says_dat, says_state, head}
 use Rattle.answers.proofs.laws.FewDeclared.{told_same, Few, WalkedFew, gives_more, tops_few, hosts_few}

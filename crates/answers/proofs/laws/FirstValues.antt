@@ -18,7 +18,7 @@ use Rattle.loop_bind.specs.Text.{outermost, judged_hosts}
 use Rattle.loop_bind.specs.Sources.{TopIsRead, HostsAreRead}
 use Rattle.loop_bind.specs.Weights.{started, with_told, within_weight, weight_of_all, trace}
 use Rattle.loop_bind.specs.Bound.{text, happens, finished, unrolled_text, bound}
-use Rattle.main_declarations.proofs.Judged.{Gives, gives_then, gives_any}
+use Rattle.main_declarations.proofs.Public.{Gives, gives_then, gives_any}
 use Rattle.run_model.specs.Ranges.{StartsInRange}
 use Rattle.answers.proofs.laws.SpelledValues.{Num, AllNum, num_at, VarsNum, DatsNum, EntriesNum, spelled_num}
 use Rattle.answers.proofs.laws.ExpressionValues.{NameNum}

@@ -15,7 +15,7 @@ use Rattle.bound_program.specs.Classes.{reduces}
 use Rattle.bound_program.specs.Steps.{Asked, Step, Do, Loop, Fix, Block, Choose, Repeat, Steps, NoStep, MoreStep}
 use Rattle.bound_program.specs.Trace.{Event, Turn, Does, Tells, Stops, Later, nothing, known as known_later, number, choose, answer, tells, counts, turns, turns_left, one_more, after, events, all_events, main_events}
 use Rattle.bound_program.specs.Limited.{ToldValue, UnrolledValue, before, item, told, unrolled}
-use Rattle.main_declarations.proofs.Judged.{Gives}
+use Rattle.main_declarations.proofs.Public.{Gives}
 use Rattle.answers.proofs.laws.SpelledValues.{Num, AllNum, nums_then}
 use Rattle.answers.proofs.laws.ExpressionValues.{Nums, value_in}
 use Rattle.answers.proofs.laws.DeclaredValues.{StepNum, StepsNum}

@@ -50,7 +50,7 @@ pub fn at_front(alloc: Global, fresh: bool, bytes: &[u8]) -> Result<Front, Alloc
 }
 
 // The reserved word or the name that these bytes are.
-#[tactic(auto, unfolding(crate::lexer::specs::Front::front_word))]
+#[tactic(auto, unfolding(crate::specs::Front::front_word))]
 fn word_or_name(alloc: Global, bytes: &[u8]) -> Result<Front, AllocError>
     requires { 0 < length bytes.now }
     ensures is { IfOk result (λ f. f ≡ front_word bytes.now) }
@@ -63,7 +63,7 @@ fn word_or_name(alloc: Global, bytes: &[u8]) -> Result<Front, AllocError>
 }
 
 // The number at the front.
-#[tactic(auto, using(crate::lexer::proofs::Runs::figures))]
+#[tactic(auto, using(crate::proofs::lexer::Runs::figures))]
 fn figure(bytes: &[u8]) -> Front
     requires some { 0 < length bytes.now }
     requires digit { digit (slice_index bytes.now 0) ≡ true }
@@ -112,7 +112,7 @@ fn passed_or_sign(fresh: bool, bytes: &[u8]) -> Front
 }
 
 // The longest sign at the front.
-#[tactic(auto, unfolding(crate::lexer::specs::Front::front_sign))]
+#[tactic(auto, unfolding(crate::specs::Front::front_sign))]
 fn sign(bytes: &[u8]) -> Front
     ensures { result ≡ front_sign bytes.now }
 {

@@ -9,7 +9,7 @@ use Rattle.schedule_model.specs.Tests.{free_kind}
 use Rattle.bound_program.specs.Values.{BoundValue, SiteValue, ItemValue, Free, Reduce, Ordered, Host, Exit}
 use Rattle.run_model.specs.Programs.{kind_of, item_at}
 use Rattle.run_model.specs.Laws.{site_of}
-use Rattle.bound_plan.proofs.Loops.{free_item, item_there}
+use Rattle.bound_plan.proofs.Public.{free_item, item_there}
 use Rattle.chain_model.specs.Slices.{owns_pair, needs_before, free_sites, loops_from, needs, executes}
 use Rattle.chain_model.specs.Laws.{AreBackwards}
 

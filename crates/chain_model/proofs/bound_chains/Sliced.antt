@@ -18,7 +18,7 @@ use Rattle.schedule_model.specs.Effects.{is_read, is_modified}
 use Rattle.schedule_model.specs.Program.{Free, is_free}
 use Rattle.schedule_model.specs.Arguments as theorem
 use Rattle.schedule_model.specs.Arguments.{reading, modifying, reaches}
-use Rattle.schedule_model.proofs.schedule_laws.Touches.{read_by, modified_by}
+use Rattle.schedule_model.proofs.Public.{read_by, modified_by}
 use Rattle.bound_program.specs.declared.sites.Arg.{Arg}
 use Rattle.bound_program.specs.declared.sites.Arg.TheVariants.{Dat, Global}
 use Rattle.bound_program.specs.Values.{BoundValue}

@@ -9,7 +9,7 @@ use Rattle.lemmas.specs.Below.{any_below, listed}
 use Rattle.local_mesh.specs.RankSet.{has_at}
 use Rattle.local_mesh.specs.declared.rank_sets.rank_set.RankSet.{RankSet}
 use Rattle.lemmas.proofs.Below.{any_witness, listed_agree}
-use Rattle.local_mesh.proofs.rank_sets.Rows.{has_at_past}
+use Rattle.local_mesh.proofs.Public.{has_at_past}
 use Rattle.mesh_decl.specs.declared.owners.Owners.{Owners}
 use Rattle.mesh_decl.specs.Mesh.{IsInRange, set_size, dat_count}
 use Rattle.mesh_decl.specs.Owners.{owner_of}

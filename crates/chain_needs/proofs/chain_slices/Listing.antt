@@ -8,7 +8,7 @@ use Rattle.local_mesh.specs.RankSet.{has_at}
 use Rattle.local_mesh.specs.declared.rank_sets.rank_set.RankSet.{RankSet}
 use Rattle.lemmas.proofs.Below.{any_agree, listed_agree}
 use Rattle.lemmas.proofs.Rows.{rows_push, rows_push_left}
-use Rattle.local_mesh.proofs.halo_lists.Steps.{any_step}
+use Rattle.local_mesh.proofs.Public.{any_step}
 
 pub listed_others : (others : List RankSet) (size ranks r : ℕ) (p : ℕ → ℕ → Bool) → length others ≡ size → ((y r : ℕ) → y < size → r < 64 → has_at others y r ≡ p y r) → ranks ≤ 64 → r < ranks
     → listed (length others) (λ x. has_at others x r) ≡ listed size (λ y. p y r)
@@ -33,9 +33,9 @@ received_more now new n size others r p own long has sizes same h e =
 pub none_more : (xs : List RankSet) (v : RankSet) → ((r : ℕ) → Rattle.local_mesh.specs.RankSet.has v r ≡ Rattle.std.proofs.Common.false) → ((s r : ℕ) → has_at xs s r ≡ Rattle.std.proofs.Common.false)
     → (s r : ℕ) → has_at (xs ++ v ∷ []) s r ≡ Rattle.std.proofs.Common.false
 none_more xs v empty h s r = ⊎_elim
-    (λ (l : s < length xs). Rattle.local_mesh.proofs.rank_sets.Rows.has_at_push_left xs v s l r ∙ h s r)
+    (λ (l : s < length xs). Rattle.local_mesh.proofs.Public.has_at_push_left xs v s l r ∙ h s r)
     (λ (l : length xs ≤ s). ⊎_elim
-    (λ (q : length xs ≡ s). Rattle.local_mesh.proofs.rank_sets.Rows.has_at_push xs v s q r ∙ empty r)
-    (λ (q : length xs ≡ s → ⊥). Rattle.local_mesh.proofs.rank_sets.Rows.has_at_past (xs ++ v ∷ []) s r (omega (arith, Rattle.std.proofs.lemmas.List.length_push xs v)))
+    (λ (q : length xs ≡ s). Rattle.local_mesh.proofs.Public.has_at_push xs v s q r ∙ empty r)
+    (λ (q : length xs ≡ s → ⊥). Rattle.local_mesh.proofs.Public.has_at_past (xs ++ v ∷ []) s r (omega (arith, Rattle.std.proofs.lemmas.List.length_push xs v)))
     (cases_eq (length xs) s))
     (Rattle.std.proofs.lemmas.Bool.cases_lt s (length xs))

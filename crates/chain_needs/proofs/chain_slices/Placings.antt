@@ -13,7 +13,7 @@ use Rattle.run_model.specs.Programs.{program_of, item_at, kind_of}
 use Rattle.run_model.specs.Laws.{site_of}
 use Rattle.chain_model.specs.Slices.{loops_from}
 use Rattle.chain_model.specs.Counts.{begins_at}
-use Rattle.chain_model.proofs.bound_chains.Backwards.{next_loop}
+use Rattle.chain_model.proofs.Public.{next_loop}
 use Rattle.chain_needs.specs.declared.chain_slices.shapes.Shape.{Shape}
 use Rattle.chain_needs.specs.declared.chain_slices.sliced.LevelAt.{LevelAt}
 use Rattle.chain_needs.specs.Shapes.{loops_of}

@@ -9,7 +9,7 @@ use Rattle.run_model.specs.Programs.{kind_of, item_at}
 use Rattle.run_model.specs.Laws.{site_of}
 use Rattle.chain_model.specs.Slices.{loops_from}
 use Rattle.chain_model.specs.Counts.{begins_at}
-use Rattle.chain_model.proofs.bound_chains.Backwards.{next_loop}
+use Rattle.chain_model.proofs.Public.{next_loop}
 use Rattle.chain_needs.specs.declared.chain_slices.levels.Level.{Level}
 use Rattle.chain_needs.specs.declared.chain_slices.shapes.Shape.{Shape}
 use Rattle.chain_needs.specs.declared.chain_slices.sliced.LevelAt.{LevelAt}

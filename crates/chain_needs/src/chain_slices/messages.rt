@@ -51,7 +51,7 @@ fn add_at(sets: &mut [RankSet], place: u32, ranks: RankSet)
 }
 
 /// The ranks of an element.
-#[tactic(auto, unfolding(local_mesh::rank_sets::specs::RankSet::has_at))]
+#[tactic(auto, unfolding(local_mesh::specs::RankSet::has_at))]
 pub fn ranks_of(sets: &[RankSet], element: u32) -> RankSet
     requires { element < length sets.now }
     ensures { (r : ℕ) → has result r ≡ has_at sets.now element r }

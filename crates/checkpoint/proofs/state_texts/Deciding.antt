@@ -9,7 +9,7 @@ use Rattle.std.proofs.Math.Seq.{take-append_seam}
 use Rattle.op_num.specs.Spelling.{integer_of, i32_judged}
 use Rattle.op_num.specs.declared.refusals.NumRefusal.{NumRefusal}
 use Rattle.op_num.specs.CutLines.{is_lf, HasNoLf, Unread, IsTaken, words}
-use Rattle.op_num.proofs.texts.line_texts.Cutting.{joined}
+use Rattle.op_num.proofs.Public.{joined}
 use Rattle.bound_program.specs.Values.{BoundValue}
 use Rattle.run_model.specs.Programs.{item_at}
 use Rattle.checkpoint.specs.Cut.{is_merging}

@@ -7,7 +7,7 @@ use Rattle.std.specs.Str.{bytes_eq}
 use Rattle.std.proofs.lemmas.Bool.{false≢true, not-false}
 use Rattle.std.proofs.lemmas.List.{append_cancel_right}
 use Rattle.op_num.specs.CutLines.{HasNoLf, Unread, IsTaken, Takes, words, HasNoSpace}
-use Rattle.op_num.proofs.texts.line_texts.Cutting.{one_line, one_cut}
+use Rattle.op_num.proofs.Public.{one_line, one_cut}
 use Rattle.bound_program.specs.Values.{BoundValue}
 use Rattle.checkpoint.specs.Reading.{Awaited, Item, Exactly, Values, Done, IsLine, HasValues, item_line, LineFits, AllFit, all, Refuses}
 use Rattle.checkpoint.proofs.state_texts.Words.{no_lf_nil, no_lf_cons, no_lf_append, decimal_no_lf, line_no_lf, spell_dark, row, words_row, row_no_lf}

@@ -9,7 +9,7 @@ use Rattle.op_num.specs.Spelling.{fits_i32, integer_of, i32_judged}
 use Rattle.op_num.specs.declared.refusals.NumRefusal.{NumRefusal}
 use Rattle.op_num.specs.declared.refusals.NumRefusal.TheVariants.{TooLarge}
 use Rattle.op_num.specs.CutLines.{words}
-use Rattle.op_num.proofs.texts.line_texts.Cutting.{joined}
+use Rattle.op_num.proofs.Public.{joined}
 use Rattle.checkpoint.specs.Reading.{Spell, HasValues}
 use Rattle.checkpoint.specs.Judged.{ToldIs}
 use Rattle.checkpoint.proofs.state_texts.Words.{row, words_row, spell_dark, spell_long, spell_push, dark_spaces}

@@ -11,7 +11,7 @@ use Rattle.op_num.specs.Spelling.{integer_of, i32_judged}
 use Rattle.op_num.specs.declared.refusals.NumRefusal.{NumRefusal}
 use Rattle.op_num.specs.Cut.{dark}
 use Rattle.op_num.specs.Lines.{line_of}
-use Rattle.op_num.proofs.texts.Words.{integer_token}
+use Rattle.op_num.proofs.Public.{integer_token}
 use Rattle.op_num.specs.CutLines.{is_lf, HasNoLf, HasNoSpace}
 use Rattle.checkpoint.specs.Reading.{Spell, words_line}
 

@@ -18,8 +18,7 @@ use Rattle.bound_program.specs.Fits.{ArgFits, ViaFits, SiteFits}
 use Rattle.run_model.specs.Windows.{Reached, Element, Whole, element_by, reached, width, cell_in, window_cells, windows}
 use Rattle.run_model.specs.Arguments.{no_arg, arg_at, arg_width, cell_of, modes_of}
 use Rattle.run_model.specs.Memory.{memory_length, place_of, has_cell}
-use Rattle.run_model.proofs.Windows.{is_argument, below}
-use Rattle.run_model.proofs.Memory.{has_dat, has_var, inside, apart, follow}
+use Rattle.run_model.proofs.Public.{is_argument, below, has_dat, has_var, inside, apart, follow}
 use Rattle.deep_halo.proofs.chain_memory.Within.{block_end, pair_within, variable_within}
 use Rattle.deep_halo.specs.Placed.{arg_place, ArePlaced}
 use Rattle.deep_halo.specs.Places.{all_cells, block_at, stands_at, AtRank}

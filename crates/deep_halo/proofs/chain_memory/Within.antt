@@ -7,7 +7,7 @@ use Rattle.bound_program.specs.Values.{BoundValue}
 use Rattle.run_model.specs.Windows.{Element, Whole, cell_in}
 use Rattle.run_model.specs.Arguments.{dat_width, var_width}
 use Rattle.run_model.specs.Memory.{memory_length, place_of, dat_start, var_start}
-use Rattle.run_model.proofs.Memory.{dats_follow, vars_follow, after_dats}
+use Rattle.run_model.proofs.Public.{dats_follow, vars_follow, after_dats}
 use Rattle.run_model.specs.Variables.{of_vars, VarsBegin}
 use Rattle.deep_halo.specs.Places.{in_block, all_cells}
 use Rattle.deep_halo.specs.Layouts.{AreDatStarts}

@@ -19,9 +19,9 @@ use Rattle.run_model.specs.Kernels.{constants}
 use Rattle.run_model.specs.Constants.{ConstantsAreNumbered, IsNumbered, no_constant}
 use Rattle.run_model.specs.Programs.{item_at, loop_of}
 use Rattle.run_model.specs.Laws.{WindowsAreReached}
-use Rattle.run_model.proofs.Memory.{dat_there, var_there}
+use Rattle.run_model.proofs.Public.{dat_there, var_there}
 use Rattle.bound_plan.specs.Variables.{reduced_by, reduces_at}
-use Rattle.bound_plan.proofs.Touched.{Merges, merges}
+use Rattle.bound_plan.proofs.Public.{Merges, merges}
 use Rattle.chain_model.specs.Machine.{ChainState, value_in, replaced, left_in, pair_values, view}
 use Rattle.chain_model.specs.Slices.{needs, slicing_of}
 use Rattle.deep_halo.specs.Placed.{HoldsWindows, LeavesPlaced}

@@ -13,8 +13,8 @@ use Rattle.bound_program.specs.Values.{BoundValue, SiteValue}
 use Rattle.run_model.specs.Windows.{element_by, reached, cell_in, window_cells}
 use Rattle.run_model.specs.Arguments.{no_arg, arg_at, arg_width, modes_of}
 use Rattle.run_model.specs.Laws.{WindowsAreReached}
-use Rattle.run_model.proofs.Windows.{mode_is, is_argument}
-use Rattle.bound_plan.proofs.Among.{at_among, among_at}
+use Rattle.run_model.proofs.Public.{mode_is, is_argument}
+use Rattle.bound_plan.proofs.Public.{at_among, among_at}
 use Rattle.schedule_model.specs.Layout.{among}
 use Rattle.deep_halo.specs.Globals.{is_on}
 use Rattle.deep_halo.specs.Dropping.{leads_to}

@@ -13,7 +13,7 @@ use Rattle.run_model.specs.Windows.{Reached, Whole, cell_in}
 use Rattle.run_model.specs.Arguments.{no_arg, var_width}
 use Rattle.run_model.specs.Variables.{of_vars}
 use Rattle.bound_plan.specs.Variables.{reduced_by, reduces_at}
-use Rattle.bound_plan.proofs.Touched.{Merges, merges}
+use Rattle.bound_plan.proofs.Public.{Merges, merges}
 use Rattle.chain_model.specs.Machine.{merged_over}
 use Rattle.deep_halo.specs.Places.{in_block}
 use Rattle.deep_halo.specs.Cells.{Values, BlocksHold, is_cell_of, component_of, with_target}

@@ -25,7 +25,7 @@ use Rattle.command_words.specs.Lines.{refused}
 use Rattle.command_words.specs.declared.answer_lines.call_answer.Answer.{Answer}
 use Rattle.command_words.specs.declared.answer_lines.refusals.Halt.{Halt}
 use Rattle.command_words.specs.Halts.{StopsWhere}
-use Rattle.command_words.proofs.answer_lines.Halts.{stops_weaker}
+use Rattle.command_words.proofs.Public.{stops_weaker}
 use Rattle.answers.specs.Judgements.{Colouring, Planned, NumbersOf, PartsOf, OwnersOf, ColouringOf, IsUnplanned, PlanIs}
 use Rattle.answers.specs.Answers.{PlanningAnswers}
 use Rattle.job_inputs.specs.Inputs.{parts_by, colouring_by}

@@ -12,7 +12,7 @@ use Rattle.command_words.specs.Refusal.{Steps, BadPlan, BeyondLimit}
 use Rattle.command_words.specs.Lines.{most}
 use Rattle.command_words.specs.declared.answer_lines.refusals.Halt.{Halt}
 use Rattle.command_words.specs.Halts.{StopsWhere}
-use Rattle.command_words.proofs.answer_lines.Halts.{stops_weaker}
+use Rattle.command_words.proofs.Public.{stops_weaker}
 use Rattle.answers.specs.Judgements.{Told, IsPlanned, IsUnplanned}
 use Rattle.job_inputs.specs.Plans.{SaysPlan}
 

@@ -33,8 +33,7 @@ use Rattle.bound_program.specs.Steps.{Asked, Do, Fix, Loop, Block, Choose, Repea
 use Rattle.main_declarations.specs.Declarations.{size_of, set_decl_found, map_decl_found, dat_decl_found, judged_set, judged_map, judged_dat}
 use Rattle.main_declarations.specs.KnownSets.{SetsKnown}
 use Rattle.main_declarations.specs.Variables.{with_fixed, with_fixed_later, with_turning, const_at, judged_declr, judged_declrs, file_cells, after_constant, constant_decl_found, judged_constant}
-use Rattle.main_declarations.proofs.Judged.{Gives, gives_then, gives_unless, gives_any}
-use Rattle.main_declarations.proofs.KnownNames.{named, other, ended_scope}
+use Rattle.main_declarations.proofs.Public.{Gives, gives_then, gives_unless, gives_any, named, other, ended_scope}
 use Rattle.loop_bind.specs.Arguments.{extern_var, with_extern, after_global, after_globals, loop_found, site, judged_loop}
 use Rattle.loop_bind.specs.Text.{nested, turning, line_found, declares, judged_call, opened, followed_by, ended, with_counter, judged_bounds, judged_host, judged_hosts}
 

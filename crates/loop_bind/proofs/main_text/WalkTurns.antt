@@ -3,7 +3,7 @@ use Rattle.std.proofs.Common.{◌≡◌, List, [], ◌∷◌, refl, ℕ, zero, s
 use Rattle.c_tree.specs.declared.hosts.Host.{Host, Block}
 use Rattle.c_tree.specs.Tree.{HostBlock}
 use Rattle.c_tree.specs.View.{host_of, hosts_of}
-use Rattle.c_tree.proofs.Blocks as blocks
+use Rattle.c_tree.proofs.Public as blocks
 use Rattle.bound_program.specs.declared.programs.Var.{Var}
 use Rattle.bound_program.specs.Values.{var_of}
 use Rattle.loop_bind.specs.Arguments.{slot_constant}

@@ -8,7 +8,7 @@ use Rattle.name_resolution.specs.declared.decls.Decl.{Decl}
 use Rattle.name_resolution.specs.Scopes.{Names, decl_in, declared}
 use Rattle.name_resolution.specs.Mains.{declr_name}
 use Rattle.name_resolution.specs.Programs.{constant_cells, other_decl, variable_decl, with_variable, after_variables, after_top, after_tops}
-use Rattle.name_resolution.proofs.Fits.{AllAre}
+use Rattle.name_resolution.proofs.Public.{AllAre}
 
 -- what a name of the file is that is no variable
 abbrev pub IsOther : Sort → Type 0

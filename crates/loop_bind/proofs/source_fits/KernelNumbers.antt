@@ -23,7 +23,7 @@ use Rattle.name_resolution.specs.Scopes.{Names, Scope, scope, means, decl_or}
 use Rattle.name_resolution.specs.Work.{nat_of, declr_cells, cells, behind}
 use Rattle.name_resolution.specs.Kernels.{element, single, value, set_element, assigned, after_declr, after_stmt, with_counter, after_params, declr_step, declrs_steps, step, steps, kernel}
 use Rattle.name_resolution.specs.Programs.{after_top, kernels_of, kernels, named_in, resolved}
-use Rattle.name_resolution.proofs.Fits.{mk}
+use Rattle.name_resolution.proofs.Public.{mk}
 use Rattle.loop_bind.specs.Sources.{HasNumbers, PlaceIsRead}
 use Rattle.loop_bind.proofs.source_fits.Marks.{MarksFit, marks_fit, front, back, expr_fits, assignment_read, condition_read}
 

@@ -19,7 +19,7 @@ use Rattle.name_resolution.specs.Scopes.{Names, repeated}
 use Rattle.name_resolution.specs.Kernels.{kernel_breaches}
 use Rattle.name_resolution.specs.Mains.{declr_name, hosts_breaches}
 use Rattle.name_resolution.specs.Programs.{constant_cells, constants, other_decl, variable_decl, after_top, after_tops, top_breaches, tops_breaches, kernels_of, kernels, named_in, file_of, breaches}
-use Rattle.name_resolution.proofs.Fits.{AllAre, declared_are, all_as, none_of_both}
+use Rattle.name_resolution.proofs.Public.{AllAre, declared_are, all_as, none_of_both}
 use Rattle.bound_program.specs.Fits.{NamesConstants, UsesConstants, RowUsesConstants}
 use Rattle.loop_bind.specs.FileVariables.{AreOfOne}
 use Rattle.loop_bind.proofs.source_fits.Kept.{IsOther, tops_keep, before_tops}

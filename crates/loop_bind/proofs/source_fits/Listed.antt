@@ -13,7 +13,7 @@ use Rattle.name_resolution.specs.Scopes.{Names, scope, decl_in, declared, repeat
 use Rattle.name_resolution.specs.Mains.{is_wrong_size, size_breaches, init_breaches, declr_name, declr_breaches, hosts_breaches}
 use Rattle.name_resolution.specs.Programs.{constant_cells, constant_of, constants, right_size, declr_count, other_decl, variable_decl, with_variable, after_variables, after_top, after_tops, variables_breaches, top_breaches, tops_breaches, named_in, file_of, breaches}
 use Rattle.name_resolution.specs.Work.{nat_of, size_of}
-use Rattle.name_resolution.proofs.Fits.{none_of_both, none_if}
+use Rattle.name_resolution.proofs.Public.{none_of_both, none_if}
 use Rattle.loop_bind.specs.FileVariables.{FileVariable, declr_variable, declrs_variables, top_variables, file_variables, is_constant, Begins, AreConstants}
 use Rattle.loop_bind.proofs.source_fits.Found.{constants_push}
 

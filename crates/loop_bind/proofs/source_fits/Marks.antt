@@ -15,7 +15,7 @@ use Rattle.name_resolution.specs.Kernels.{expr_breaches}
 use Rattle.name_resolution.specs.Mains.{is_wrong_size, size_breaches, init_breaches, declr_name, declr_sort, declr_breaches, with_name, with_host_counter, own_after, fixed_after, main_declrs_breaches, header_breaches, host_breaches, hosts_breaches}
 use Rattle.name_resolution.specs.Programs.{with_variable, after_top, variables_breaches, top_breaches, tops_breaches, named_in, file_of, breaches}
 use Rattle.name_resolution.specs.Work.{nat_of, size_of}
-use Rattle.name_resolution.proofs.Fits.{none_of_both, none_if}
+use Rattle.name_resolution.proofs.Public.{none_of_both, none_if}
 use Rattle.loop_bind.specs.Sources.{HasNumbers, IsRead, PlaceIsRead, TopIsRead, CallIsRead, HostIsRead, HostsAreRead}
 use Rattle.loop_bind.proofs.source_fits.Numbers.{KindFits, KindsFit, lexed_fit}
 

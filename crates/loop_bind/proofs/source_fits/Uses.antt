@@ -17,7 +17,7 @@ use Rattle.name_resolution.specs.First.{breach_if}
 use Rattle.name_resolution.specs.Scopes.{Names, Scope, scope, means, declared, repeated, decl_or, use_breaches}
 use Rattle.name_resolution.specs.Work.{declr_cells, cells, is_heavy, behind}
 use Rattle.name_resolution.specs.Kernels.{reading, writing, name_breaches, expr_breaches, place_breaches, element, single, value, set_element, assigned, after_declr, after_declrs, after_stmt, with_counter, param_decl, after_params, declr_breaches, declrs_breaches, stmt_breaches, stmts_breaches, params_breaches, kernel_breaches, declr_step, declrs_steps, step, steps, kernel}
-use Rattle.name_resolution.proofs.Fits.{AllAre, mk, meant, declared_are, none_of_both, Allowed, allowed}
+use Rattle.name_resolution.proofs.Public.{AllAre, mk, meant, declared_are, none_of_both, Allowed, allowed}
 
 module _ (there : (from count : ℕ) → Type 0) where
   -- the cells of constants that an expression reads are there

@@ -137,7 +137,7 @@ fn note_map(source: &Source<'_>, first: &mut Option<Found>, k: &Declared, via: &
 }
 
 // Notes what is wrong with a global.
-#[tactic(auto, using(bound_program::proofs::refusals::Firsts::least_append))]
+#[tactic(auto, using(bound_program::proofs::Public::least_append))]
 fn note_global(
     source: &Source<'_>,
     first: &mut Option<Found>,
@@ -182,7 +182,7 @@ fn note_global(
 }
 
 // Notes what is wrong with how an argument leads to a dat.
-#[tactic(auto, using(bound_program::proofs::refusals::Firsts::least_three))]
+#[tactic(auto, using(bound_program::proofs::Public::least_three))]
 fn note_reach(
     source: &Source<'_>,
     first: &mut Option<Found>,
@@ -207,7 +207,7 @@ fn note_reach(
 }
 
 // Notes what is wrong with an argument on a dat.
-#[tactic(auto, using(bound_program::proofs::refusals::Firsts::least_four))]
+#[tactic(auto, using(bound_program::proofs::Public::least_four))]
 fn note_dat(
     source: &Source<'_>,
     first: &mut Option<Found>,
@@ -232,7 +232,7 @@ fn note_dat(
 }
 
 // Notes what is wrong with an argument of a loop over that set, behind those globals.
-#[tactic(auto, using(bound_program::proofs::refusals::Firsts::least_append))]
+#[tactic(auto, using(bound_program::proofs::Public::least_append))]
 fn note_arg(
     source: &Source<'_>,
     first: &mut Option<Found>,

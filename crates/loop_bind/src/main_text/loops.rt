@@ -51,7 +51,7 @@ fn kernel_number(source: &Source<'_>, meaning: Option<Meaning>) -> u32
 }
 
 // The first of what is wrong with a loop.
-#[tactic(auto, using(bound_program::proofs::refusals::Firsts::first_of_four))]
+#[tactic(auto, using(bound_program::proofs::Public::first_of_four))]
 fn first_in_loop(
     source: &Source<'_>,
     k: &Declared,

@@ -6,8 +6,7 @@ use Rattle.mesh_decl.specs.declared.owners.Owners.{Owners}
 use Rattle.mesh_decl.specs.Mesh.{MeshValue, IsMesh, set_count, set_size}
 use Rattle.mesh_decl.specs.Owners.{owners_in, owner_of}
 use Rattle.partition.specs.Block.{block_start, InBlock, AreBlocks}
-use Rattle.partition.proofs.Giving.{start_le, block_unique, in_some_block}
-use Rattle.partition.proofs.Shares.{share_count}
+use Rattle.partition.proofs.Public.{start_le, block_unique, in_some_block, share_count}
 use Rattle.loop_plan.proofs.plan_exists.Built.{table, length_table, table_at, vec_of, items_are}
 
 -- ---- owners of these lists

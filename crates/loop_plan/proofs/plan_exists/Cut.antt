@@ -3,7 +3,7 @@ use Rattle.std.proofs.Common.{◌≡◌, ◌<◌, ◌≤◌, ◌-◌, ℕ, ℤ, 
 use Rattle.std.proofs.lemmas.List.{take-append-drop, length-take-le}
 use Rattle.std.proofs.lemmas.List.Sorted.{length_permutation}
 use Rattle.partition.specs.Bisect.{height, IsSpread, IsAxis, IsAlong, IsCut}
-use Rattle.partition.proofs.Axes.{spread_from, spread_le}
+use Rattle.partition.proofs.Public.{spread_from, spread_le}
 use Rattle.loop_plan.proofs.plan_exists.Firsts.{greatest}
 use Rattle.loop_plan.proofs.plan_exists.Picked.{By, IsPicked, picked}
 use Rattle.loop_plan.proofs.plan_exists.Sorted.{sorted, sorted_same, sorted_by}

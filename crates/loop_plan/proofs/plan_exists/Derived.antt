@@ -6,8 +6,7 @@ use Rattle.mesh_decl.specs.Mesh.{MeshValue, IsMesh, set_count, set_size}
 use Rattle.mesh_decl.specs.Owners.{owners_in}
 use Rattle.lemmas.specs.Below.{any_below}
 use Rattle.partition.specs.Derive.{AreDerived, AreKnown}
-use Rattle.partition.proofs.TurnSteps.{IsTurn, turn_init, turn_step, turn_none, turn_done}
-use Rattle.partition.proofs.OneSet.{derived_one, derived_own, one_kept}
+use Rattle.partition.proofs.Public.{IsTurn, turn_init, turn_step, turn_none, turn_done, derived_one, derived_own, one_kept}
 use Rattle.loop_plan.proofs.plan_exists.Built.{table, length_table, table_at, vec_of, items_are}
 use Rattle.loop_plan.proofs.plan_exists.NextSets.{Next, some_next}
 

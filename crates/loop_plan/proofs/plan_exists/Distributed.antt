@@ -4,7 +4,7 @@ use Rattle.mesh_decl.specs.declared.owners.Owners.{Owners}
 use Rattle.mesh_decl.specs.declared.owners.Perms.{Perms}
 use Rattle.mesh_decl.specs.Mesh.{MeshValue, IsMesh, IsMapAt, map_count, set_size, map_from, map_to, map_dim, target}
 use Rattle.mesh_decl.specs.Owners.{AreOwners, ArePerms}
-use Rattle.mesh_decl.proofs.Declared.{sizes_fit}
+use Rattle.mesh_decl.proofs.Public.{sizes_fit}
 use Rattle.local_mesh.specs.Halo.{executes, has_copy}
 use Rattle.local_mesh.specs.declared.types.RankMesh.{RankMesh}
 use Rattle.local_mesh.specs.LocalMesh.{IsRankMesh, AreRankMeshes}

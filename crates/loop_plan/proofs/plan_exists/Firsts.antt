@@ -4,7 +4,7 @@ use Rattle.std.proofs.lemmas.Bool.{cases_lt, cases_eq, cases_Bool}
 use Rattle.lemmas.specs.Below.{any_below}
 use Rattle.partition.specs.Derive.{IsFirst}
 use Rattle.partition.specs.Elected.{IsElected}
-use Rattle.partition.proofs.Firsts.{none_passes}
+use Rattle.partition.proofs.Public.{none_passes}
 
 pub first : (p : ℕ → Bool) (n : ℕ) → (any_below n p ≡ false) ⊎ ((k : ℕ) × IsFirst n p k)
 first p zero = inl refl

@@ -4,7 +4,7 @@ use Rattle.mesh_decl.specs.declared.owners.Owners.{Owners}
 use Rattle.mesh_decl.specs.declared.owners.Perms.{Perms}
 use Rattle.mesh_decl.specs.Mesh.{MeshValue}
 use Rattle.mesh_decl.specs.Owners.{AreOwners, ArePerms}
-use Rattle.partition.proofs.part_text.Owned as text
+use Rattle.partition.proofs.Public as text
 use Rattle.partition.specs.Parts.{Parts, Block, Bisect, Grow, Text}
 use Rattle.partition.specs.Judgements.{NumbersAre, OwnersAre}
 

@@ -4,7 +4,7 @@ use Rattle.std.proofs.lemmas.List.{length-take-le, get_or_default}
 use Rattle.renumber.specs.Taken.{earliest}
 use Rattle.partition.specs.Block.{block_start}
 use Rattle.partition.specs.Grow.{IsNextFree, IsGrown}
-use Rattle.renumber.proofs.Numbering.{numbering_from}
+use Rattle.renumber.proofs.Public.{numbering_from}
 use Rattle.loop_plan.proofs.plan_exists.Built.{table, length_table, table_at}
 use Rattle.loop_plan.proofs.plan_exists.Found.{found, found_at}
 use Rattle.loop_plan.proofs.plan_exists.Turns.{IsNextOf, IsWhole, whole}

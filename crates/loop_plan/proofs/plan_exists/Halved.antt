@@ -6,8 +6,7 @@ use Rattle.std.proofs.lemmas.List.{get_or_default}
 use Rattle.std.proofs.Math.Nat.{div-le_of_le-mul}
 use Rattle.partition.specs.Block.{block_start}
 use Rattle.partition.specs.Bisect.{IsHalved, IsBisected}
-use Rattle.partition.proofs.Parts.{same_halved, halved_one, halved_none, halved_both, lower_once, upper_once, lower_share, upper_share, upper_length}
-use Rattle.partition.proofs.Halving.{all_once, bisected}
+use Rattle.partition.proofs.Public.{same_halved, halved_one, halved_none, halved_both, lower_once, upper_once, lower_share, upper_share, upper_length, all_once, bisected}
 use Rattle.loop_plan.proofs.plan_exists.Built.{table, length_table, table_at}
 use Rattle.loop_plan.proofs.plan_exists.Turns.{has, has_holds, has_found}
 use Rattle.loop_plan.proofs.plan_exists.Numbered.{counting, kept, counting_is}

@@ -4,8 +4,7 @@ use Rattle.std.specs.List.{All}
 use Rattle.std.proofs.lemmas.List.{get_or-map}
 use Rattle.mesh_decl.specs.declared.decl.MapDecl.{MapDecl}
 use Rattle.mesh_decl.specs.Mesh.{MeshValue, IsMesh, IsMapAt, map_count, set_size, map_from, map_dim}
-use Rattle.mesh_decl.proofs.Declared.{sizes_fit}
-use Rattle.mesh_decl.proofs.FieldReads.{some_in}
+use Rattle.mesh_decl.proofs.Public.{sizes_fit, some_in}
 use Rattle.bound_program.specs.Limits.{max_dim}
 use Rattle.loop_plan.specs.Laws.{FitsMemory}
 

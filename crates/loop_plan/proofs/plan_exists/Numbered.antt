@@ -10,9 +10,7 @@ use Rattle.renumber.specs.Degrees.{degree_order}
 use Rattle.renumber.specs.Taken.{earliest, IsTaken}
 use Rattle.renumber.specs.Identity.{IsIdentity}
 use Rattle.renumber.specs.CuthillMcKee.{target_key, IsByTargets, IsSetOrder, IsCuthillMcKee}
-use Rattle.renumber.proofs.Kept.{kept_numbers}
-use Rattle.renumber.proofs.Numbering.{numbering_from}
-use Rattle.renumber.proofs.Reversed.{reversed_numbering}
+use Rattle.renumber.proofs.Public.{kept_numbers, numbering_from, reversed_numbering}
 use Rattle.partition.specs.Parts.{NumbersRefusal, UnknownMap}
 use Rattle.partition.specs.Judgements.{NumbersAre}
 use Rattle.loop_plan.proofs.plan_exists.Built.{table, length_table, table_at, vec_of, items_are}

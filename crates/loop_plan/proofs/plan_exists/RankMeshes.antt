@@ -10,7 +10,7 @@ use Rattle.local_mesh.specs.Halo.{executes, has_copy}
 use Rattle.local_mesh.specs.declared.types.LocalSet.{LocalSet}
 use Rattle.local_mesh.specs.declared.types.RankMesh.{RankMesh}
 use Rattle.local_mesh.specs.LocalMesh.{IsLocalSet, IsRankMesh, AreLocalTargets, AreClosed, originals_in, executed_in, cells_before}
-use Rattle.local_mesh.proofs.Closing.{originals_at, sets_closed}
+use Rattle.local_mesh.proofs.Public.{originals_at, sets_closed}
 use Rattle.loop_plan.proofs.plan_exists.Built.{table, length_table, table_at, vec_of, items_are, row_is}
 use Rattle.loop_plan.proofs.plan_exists.Found.{found, found_in}
 use Rattle.loop_plan.proofs.plan_exists.Sets.{local_set, originals_are, few_originals, local_set_is}

@@ -9,8 +9,7 @@ use Rattle.local_mesh.specs.declared.types.LocalSet.{LocalSet}
 use Rattle.local_mesh.specs.Local.{ordered, earlier, AreInverse}
 use Rattle.local_mesh.specs.Parts.{by_new}
 use Rattle.local_mesh.specs.LocalMesh.{IsLocalSet}
-use Rattle.local_mesh.proofs.Inverse.{inverse}
-use Rattle.local_mesh.proofs.Numbered.{groups_apart, number_few}
+use Rattle.local_mesh.proofs.Public.{inverse, groups_apart, number_few}
 use Rattle.loop_plan.proofs.plan_exists.Built.{table, length_table, table_at, vec_of, items_are}
 
 module _ (g : MeshValue) (o : Owners) (p : Perms) (r : ℕ) where

@@ -4,7 +4,7 @@ use Rattle.op_num.specs.declared.refusals.NumRefusal.{NumRefusal}
 use Rattle.op_num.specs.declared.refusals.NumRefusal.TheVariants.{NotDigits, TooLarge}
 use Rattle.op_num.specs.Cut.{Word, words}
 use Rattle.op_num.specs.Automaton.{last_line, run, onto}
-use Rattle.op_num.proofs.texts.Exact as exact
+use Rattle.op_num.proofs.Public as exact
 use Rattle.mesh_decl.specs.declared.text.entry.Form.{Form}
 use Rattle.mesh_decl.specs.declared.text.entry.MeshRefusal.{MeshRefusal}
 use Rattle.mesh_decl.specs.declared.text.entry.MeshRefusal.TheVariants.{Header, Syntax, DuplicateEntry, WrongCount, NumberRange, Limit, OutOfMemory}

@@ -7,8 +7,7 @@ use Rattle.std.proofs.lemmas.List.Sums.{sum_by_push, sum_by-append}
 use Rattle.op_num.specs.Spelling.{number_of, integer_of, i32_judged}
 use Rattle.op_num.specs.Cut.{Word, text_of}
 use Rattle.op_num.specs.Automaton.{onto}
-use Rattle.op_num.proofs.texts.Exact.{through}
-use Rattle.op_num.proofs.texts.Leading.{Goes, goes_nowhere, goes_join, goes_one, goes_on}
+use Rattle.op_num.proofs.Public.{through, Goes, goes_nowhere, goes_join, goes_one, goes_on}
 use Rattle.mesh_decl.specs.declared.text.entry.Form.{Form}
 use Rattle.mesh_decl.specs.declared.text.entry.Form.TheVariants as form
 use Rattle.mesh_decl.specs.declared.text.entry.Entry.{Entry}

@@ -11,7 +11,7 @@ use Rattle.std.specs.Ordering.{int_eq}
 use Rattle.op_num.specs.Spelling.{number_of, integer_of, i32_judged}
 use Rattle.op_num.specs.Cut.{words, text_of, texts, dark}
 use Rattle.op_num.specs.Lines.{IsToken, line_of, text_of_lines, AreTokens, AreLines, placed}
-use Rattle.op_num.proofs.texts.Words.{concat, placed_texts, number_token, integer_token, concat_append, lines_append}
+use Rattle.op_num.proofs.Public.{concat, placed_texts, number_token, integer_token, concat_append, lines_append}
 use Rattle.mesh_decl.specs.declared.text.entry.Form.{Form}
 use Rattle.mesh_decl.specs.declared.text.entry.Form.TheVariants as form
 use Rattle.mesh_decl.specs.declared.text.entry.Entry.{Entry}

@@ -5,7 +5,7 @@ use Rattle.std.proofs.lemmas.List.Sums.{sum_by_push}
 use Rattle.std.proofs.lemmas.Bool.Decides.{nat_tests}
 use Rattle.op_num.specs.Cut.{Word, Uncut, first_of}
 use Rattle.op_num.specs.Automaton.{onto, IsNext}
-use Rattle.op_num.proofs.texts.Reading.{onto_err, run_refused, run_end, run_onto, or_refused}
+use Rattle.op_num.proofs.Public.{onto_err, run_refused, run_end, run_onto, or_refused}
 use Rattle.mesh_decl.specs.declared.text.entry.MeshRefusal.{MeshRefusal}
 use lib.ListN.{replicate}
 use Rattle.op_num.specs.Spelling.{number_of, integer_of, i32_judged}

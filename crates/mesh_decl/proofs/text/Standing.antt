@@ -10,7 +10,7 @@ use Rattle.op_num.specs.declared.refusals.NumRefusal.{NumRefusal}
 use Rattle.op_num.specs.declared.refusals.NumRefusal.TheVariants.{NotDigits, TooLarge}
 use Rattle.op_num.specs.Cut.{Word}
 use Rattle.op_num.specs.Automaton.{onto}
-use Rattle.op_num.proofs.texts.Reading.{onto_is}
+use Rattle.op_num.proofs.Public.{onto_is}
 use Rattle.mesh_decl.specs.declared.text.entry.Form.{Form}
 use Rattle.mesh_decl.specs.declared.text.entry.Form.TheVariants as form
 use Rattle.mesh_decl.specs.declared.text.entry.Entry.TheVariants.{One, Many}

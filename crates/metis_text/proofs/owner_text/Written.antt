@@ -8,7 +8,7 @@ use lib.ListN.{replicate}
 use Rattle.op_num.specs.Spelling.{number_of}
 use Rattle.op_num.specs.Cut.{Word, words, text_of}
 use Rattle.op_num.specs.Lines.{IsToken, line_of, text_of_lines, AreTokens, AreLines, on_line, placed}
-use Rattle.op_num.proofs.texts.Words.{number_token}
+use Rattle.op_num.proofs.Public.{number_token}
 use Rattle.mesh_decl.specs.declared.owners.Owners.{Owners}
 use Rattle.mesh_decl.specs.Mesh.{MeshValue, set_count, set_size, set_name}
 use Rattle.mesh_decl.specs.Owners.{AreOwners, owners_in, owner_of}

@@ -4,7 +4,7 @@ use Rattle.std.specs.Prelude.{slice_get}
 use Rattle.op_num.specs.Spelling.{number_of}
 use Rattle.op_num.specs.Cut.{Word, words}
 use Rattle.op_num.specs.Automaton.{last_line, run, onto}
-use Rattle.op_num.proofs.texts.Exact as exact
+use Rattle.op_num.proofs.Public as exact
 use Rattle.mesh_decl.specs.Mesh.{MeshValue, set_size}
 use Rattle.partition.specs.declared.part_text.refusals.PartRefusal.{PartRefusal}
 use Rattle.partition.specs.declared.part_text.refusals.PartRefusal.TheVariants.{Header, Syntax, UnknownSet, MissingSet, WrongCount, RankRange, OutOfMemory}

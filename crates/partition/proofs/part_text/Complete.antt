@@ -4,8 +4,7 @@ use Rattle.std.proofs.lemmas.Bool.Decides.{nat_tests}
 use Rattle.op_num.specs.Spelling.{number_of}
 use Rattle.op_num.specs.Cut.{Word, text_of}
 use Rattle.op_num.specs.Automaton.{onto}
-use Rattle.op_num.proofs.texts.Exact.{through}
-use Rattle.op_num.proofs.texts.Leading.{Goes, goes_nowhere, goes_join, goes_one, goes_on}
+use Rattle.op_num.proofs.Public.{through, Goes, goes_nowhere, goes_join, goes_one, goes_on}
 use Rattle.mesh_decl.specs.Mesh.{MeshValue, set_size}
 use Rattle.partition.specs.declared.part_text.refusals.PartRefusal.TheVariants.{WrongCount, RankRange}
 use Rattle.partition.specs.Token.{keyword_of}

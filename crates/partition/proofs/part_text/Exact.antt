@@ -3,7 +3,7 @@ use Rattle.std.proofs.Common.{◌≡◌, ℕ, ◌⊎◌, List, [], ◌∷◌, �
 use Rattle.std.proofs.lemmas.List.{map_push}
 use Rattle.op_num.specs.Cut.{Word, text_of, words, texts, uncut}
 use Rattle.op_num.specs.Automaton.{last_line, run, Answers, IsGiven, IsRefused}
-use Rattle.op_num.proofs.texts.Exact as exact
+use Rattle.op_num.proofs.Public as exact
 use Rattle.mesh_decl.specs.Mesh.{MeshValue}
 use Rattle.partition.specs.declared.part_text.refusals.PartRefusal.{PartRefusal}
 use Rattle.partition.specs.declared.part_text.refusals.PartRefusal.TheVariants.{OutOfMemory}

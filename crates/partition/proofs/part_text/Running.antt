@@ -5,7 +5,7 @@ use Rattle.op_num.specs.Spelling.{number_of}
 use Rattle.std.proofs.lemmas.Result.{err_from_is_err_and}
 use Rattle.op_num.specs.Cut.{Word, Uncut, first, behind, first_of}
 use Rattle.op_num.specs.Automaton.{after, onto, IsNext}
-use Rattle.op_num.proofs.texts.Reading.{onto_err, run_token, run_refused, run_end, run_onto}
+use Rattle.op_num.proofs.Public.{onto_err, run_token, run_refused, run_end, run_onto}
 use Rattle.mesh_decl.specs.Mesh.{MeshValue, set_size}
 use Rattle.partition.specs.declared.part_text.refusals.PartRefusal.{PartRefusal}
 use Rattle.partition.specs.declared.part_text.refusals.PartRefusal.TheVariants.{Header, Syntax, MissingSet, WrongCount}

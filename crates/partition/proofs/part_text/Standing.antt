@@ -5,7 +5,7 @@ use Rattle.std.proofs.lemmas.Bool.Decides.{nat_tests}
 use Rattle.op_num.specs.Spelling.{number_of}
 use Rattle.op_num.specs.Cut.{Word}
 use Rattle.op_num.specs.Automaton.{onto}
-use Rattle.op_num.proofs.texts.Reading.{onto_is}
+use Rattle.op_num.proofs.Public.{onto_is}
 use Rattle.mesh_decl.specs.Mesh.{MeshValue, set_size}
 use Rattle.partition.specs.declared.part_text.refusals.PartRefusal.TheVariants.{Header, WrongCount, RankRange}
 use Rattle.partition.specs.declared.part_text.token.Keyword.{Keyword}

@@ -8,7 +8,7 @@ use Rattle.schedule_model.specs.Setup.{Setup}
 use Rattle.schedule_model.specs.Machine.{merge_at, put2, put3, window_of}
 use Rattle.schedule_model.specs.Layout.{Core, Faults, Leaves, Layout, lookup}
 use Rattle.schedule_model.specs.Flat.{Pane, Shut_pane, Broken_pane, Windows, Flat, window, variable, change, open_pane, close_pane, flat_step}
-use Rattle.schedule_model.proofs.flat_machine.Rows.{map_same}
+use Rattle.schedule_model.proofs.Public.{map_same}
 use Rattle.rank_exec.specs.Closed.{AreAlike}
 
 pub alike_refl : {F : Type 0} (f : Flat F) → AreAlike f f

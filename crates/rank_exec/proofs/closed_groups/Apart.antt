@@ -13,7 +13,7 @@ use Rattle.schedule_model.specs.Setup.{Setup}
 use Rattle.schedule_model.specs.Laws.{Coloured}
 use Rattle.schedule_model.specs.Tests.{free_kind}
 use Rattle.schedule_model.specs.Layout.{Layout, IsLayout, among, by_place}
-use Rattle.schedule_model.proofs.flat_machine.Places.{place_runs}
+use Rattle.schedule_model.proofs.Public.{place_runs}
 use Rattle.rank_exec.specs.Closed.{closed}
 
 module _ {F : Type 0} (p : Setup F) (l : Layout F) where

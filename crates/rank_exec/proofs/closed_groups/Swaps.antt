@@ -12,8 +12,7 @@ use Rattle.schedule_model.specs.Machine.{put3}
 use Rattle.schedule_model.specs.Tests.{free_kind}
 use Rattle.schedule_model.specs.Layout.{Core, Faults, Leaves, Layout, IsLayout, lookup, among, by_place}
 use Rattle.schedule_model.specs.Flat.{Pane, Shut_pane, Broken_pane, Windows, Flat, updated, read, window, open_pane, close_pane, flat_step}
-use Rattle.schedule_model.proofs.flat_machine.Rows.{map_same}
-use Rattle.schedule_model.proofs.flat_machine.Places.{place_runs}
+use Rattle.schedule_model.proofs.Public.{map_same, place_runs}
 use Rattle.rank_exec.specs.Closed.{AreAlike}
 use Rattle.rank_exec.proofs.closed_groups.Alike.{core_at, core_same}
 use Rattle.rank_exec.proofs.closed_groups.Apart.{NoCommon}

@@ -23,7 +23,7 @@ pub fn print_line(out: &mut Vec<u8>, text: &Text, values: &[i32]) -> Result<(), 
 }
 
 // The bytes of a line, or a front of them.
-#[tactic(auto, using(crate::gather::proofs::Pieces::line_ends))]
+#[tactic(auto, using(crate::proofs::gather::Pieces::line_ends))]
 fn put_line(out: &mut Vec<u8>, text: &[u8], values: &[i32]) -> Result<(), OutOfMemory>
     ensures ok { OnOk result (out.new.items ≡ out.old.items ++ printed_line text.now values.now) }
     ensures grows { Grows out.old.items out.new.items }
@@ -48,7 +48,7 @@ enum Piece {
 }
 
 // The first piece of a text.
-#[tactic(auto, using(crate::gather::proofs::Pieces::value_first, crate::gather::proofs::Pieces::percent_first, crate::gather::proofs::Pieces::byte_first))]
+#[tactic(auto, using(crate::proofs::gather::Pieces::value_first, crate::proofs::gather::Pieces::percent_first, crate::proofs::gather::Pieces::byte_first))]
 fn first_piece(text: &[u8]) -> Piece
     requires { 0 < length text.now }
     ensures text { (zs : List ℤ) → printed_line text.now zs

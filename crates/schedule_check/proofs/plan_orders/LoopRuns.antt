@@ -24,8 +24,7 @@ use Rattle.loop_plan.specs.Places.{runs_free, runs_loop}
 use Rattle.loop_plan.specs.Proper.{IsSitePlan, Proper}
 use Rattle.loop_plan.specs.StepOutline.{step_outline, loop_of}
 use Rattle.schedule_check.specs.Runs.{blocks_in, inner_in, slot_runs, slot_of, AreRunsOf, AreSlotRuns, AreLoopRuns}
-use Rattle.loop_plan.proofs.Numbers.{is_listed}
-use Rattle.loop_plan.proofs.PlanReads.{site_read}
+use Rattle.loop_plan.proofs.Public.{is_listed, site_read}
 use Rattle.schedule_check.proofs.plan_orders.TableReads.{at_read}
 
 -- ---- loops with a plan run as Free ones

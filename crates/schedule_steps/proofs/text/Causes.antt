@@ -3,7 +3,7 @@ use Rattle.std.proofs.Common.{◌≡◌, ℕ, ◌^◌, Bool, true, false, if◌t
 use Rattle.op_num.specs.Spelling.{number_of}
 use Rattle.op_num.specs.Cut.{Word, words}
 use Rattle.op_num.specs.Automaton.{last_line, run, onto}
-use Rattle.op_num.proofs.texts.Exact as exact
+use Rattle.op_num.proofs.Public as exact
 use Rattle.schedule_steps.specs.declared.text.lines.TheConstants.{SCHEDULE_STEPS}
 use Rattle.schedule_steps.specs.declared.text.refusals.ScheduleTextRefusal.{ScheduleTextRefusal}
 use Rattle.schedule_steps.specs.declared.text.refusals.ScheduleTextRefusal.TheVariants.{Header, Syntax, TooManySteps, OutOfMemory}

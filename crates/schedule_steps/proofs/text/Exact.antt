@@ -2,7 +2,7 @@
 use Rattle.std.proofs.Common.{◌≡◌, ℕ, ◌≤◌, ◌⊎◌, length, List, Result, Ok, Err, IfOk, IfErr, refl, sym, subst, ◌∙◌}
 use Rattle.op_num.specs.Cut.{Word, words, uncut}
 use Rattle.op_num.specs.Automaton.{last_line, run, Answers, IsGiven, IsRefused}
-use Rattle.op_num.proofs.texts.Exact as exact
+use Rattle.op_num.proofs.Public as exact
 use Rattle.schedule_steps.specs.declared.text.lines.Line.{Line}
 use Rattle.schedule_steps.specs.declared.text.lines.TheConstants.{SCHEDULE_STEPS}
 use Rattle.schedule_steps.specs.declared.text.refusals.ScheduleTextRefusal.{ScheduleTextRefusal}

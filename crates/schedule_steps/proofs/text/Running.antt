@@ -3,7 +3,7 @@ use Rattle.std.proofs.Common.{◌≡◌, ℕ, length, true, false, List, [], Opt
 use Rattle.op_num.specs.Spelling.{number_of}
 use Rattle.op_num.specs.Cut.{Word, Uncut, first_of}
 use Rattle.op_num.specs.Automaton.{onto, IsNext}
-use Rattle.op_num.proofs.texts.Reading.{onto_err, run_refused, run_end, run_onto}
+use Rattle.op_num.proofs.Public.{onto_err, run_refused, run_end, run_onto}
 use Rattle.schedule_steps.specs.declared.text.lines.Line.{Line}
 use Rattle.schedule_steps.specs.declared.text.refusals.ScheduleTextRefusal.{ScheduleTextRefusal}
 use Rattle.schedule_steps.specs.declared.text.refusals.ScheduleTextRefusal.TheVariants.{Header, Syntax}

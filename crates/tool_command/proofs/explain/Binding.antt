@@ -3,7 +3,7 @@ use Rattle.std.proofs.Common.{◌≡◌, ℕ, List, [], Option, Some, subst}
 use Rattle.op_outside.specs.Outside.{Files}
 use Rattle.job_inputs.specs.Seen.{nothing_seen}
 use Rattle.job_inputs.specs.Readings.{Readings, readings_of, Finds}
-use Rattle.job_inputs.proofs.kept_files.Finding.{nothing_is_seen}
+use Rattle.job_inputs.proofs.Public.{nothing_is_seen}
 use Rattle.command_words.specs.Refusal.{Refusal}
 use Rattle.command_words.specs.declared.answer_lines.refusals.Halt.{Halt}
 use Rattle.command_words.specs.declared.answer_lines.refusals.Halt.TheVariants.{Refused}

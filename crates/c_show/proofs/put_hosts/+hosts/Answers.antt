@@ -2,7 +2,7 @@ use Rattle.std.proofs.Common.{◌≡◌, ◌∙◌, ap, rules, arith}
 use Rattle.std.proofs.lemmas.Grind.{common_steps}
 use Rattle.c_tree.specs.Tree.{HostBlock}
 use Rattle.c_tree.specs.View.{host_of, hosts_of}
-use Rattle.c_tree.proofs.Blocks.{host_block}
+use Rattle.c_tree.proofs.Public.{host_block}
 use Rattle.c_show.proofs.put_hosts.+hosts.Goals as goal
 
 pub put_host-returns-in_ok-put_hosts-in-Block : goal.put_host-returns-in_ok-put_hosts-in-Block

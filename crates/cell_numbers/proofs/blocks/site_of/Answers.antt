@@ -1,6 +1,6 @@
 use Rattle.std.proofs.Common.{ap, length, arith}
 use Rattle.loop_plan.specs.Values.{SitePlanValue, site_plan_of}
-use Rattle.loop_plan.proofs.PlanReads.{site_read, site_none}
+use Rattle.loop_plan.proofs.Public.{site_read, site_none}
 use Rattle.cell_numbers.proofs.blocks.site_of.Goals as goal
 
 pub unreachable-requires : goal.unreachable-requires

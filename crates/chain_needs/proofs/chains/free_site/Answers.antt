@@ -1,5 +1,5 @@
 use Rattle.std.proofs.Common.{◌∙◌, ap}
-use Rattle.loop_plan.proofs.Behind.{item_read, traced}
+use Rattle.loop_plan.proofs.Public.{item_read, traced}
 use Rattle.chain_needs.specs.FreeSites.{free_site_of}
 use Rattle.chain_needs.proofs.chains.free_site.Goals as goal
 

@@ -6,7 +6,7 @@ use Rattle.bound_program.specs.declared.sites.Arg.{Arg}
 use Rattle.bound_program.specs.Values.{bound_of}
 use Rattle.bound_program.specs.Fits.{site_at}
 use Rattle.chain_model.specs.Slices.{executes_for, modifies_some}
-use Rattle.local_mesh.proofs.halo_lists.Steps.{has_more}
+use Rattle.local_mesh.proofs.Public.{has_more}
 use Rattle.chain_needs.specs.PairSets.{pairs_of}
 use Rattle.chain_needs.proofs.executing.executing_all.Goals as goal
 

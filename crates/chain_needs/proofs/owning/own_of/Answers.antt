@@ -4,7 +4,7 @@ use Rattle.mesh_decl.specs.Mesh.{set_size, dat_set}
 use Rattle.mesh_decl.specs.Owners.{owner_of}
 use Rattle.bound_program.specs.Values.{bound_of}
 use Rattle.chain_model.specs.Slices.{owns_pair}
-use Rattle.local_mesh.proofs.halo_lists.Steps.{has_more}
+use Rattle.local_mesh.proofs.Public.{has_more}
 use Rattle.chain_needs.proofs.OwnPairs.{owner_is}
 use Rattle.chain_needs.proofs.owning.own_of.Goals as goal
 

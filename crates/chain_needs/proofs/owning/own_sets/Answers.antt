@@ -2,7 +2,7 @@ use Rattle.std.proofs.Common.{ℕ, arith}
 use Rattle.std.proofs.lemmas.List.{length_push}
 use Rattle.mesh_decl.specs.Mesh.{set_size, dat_set}
 use Rattle.bound_program.specs.Values.{bound_of}
-use Rattle.local_mesh.proofs.halo_lists.SetsReading.{sets_more, sets_has_more}
+use Rattle.local_mesh.proofs.Public.{sets_more, sets_has_more}
 use Rattle.chain_model.specs.Slices.{owns_pair}
 use Rattle.chain_needs.proofs.owning.own_sets.Goals as goal
 

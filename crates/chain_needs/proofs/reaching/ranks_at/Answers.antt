@@ -1,9 +1,8 @@
 use Rattle.std.proofs.Common.{◌≡◌, ◌<◌, List, length, ap, ◌∙◌, arith}
 use Rattle.local_mesh.specs.declared.rank_sets.rank_set.RankSet.{RankSet}
 use Rattle.local_mesh.specs.RankSet.{has_at}
-use Rattle.local_mesh.proofs.rank_sets.Rows.{has_at_read}
+use Rattle.local_mesh.proofs.Public.{has_at_read, sets_read}
 use Rattle.local_mesh.specs.Sets.{sets_in}
-use Rattle.local_mesh.proofs.halo_lists.SetsReading.{sets_read}
 use Rattle.chain_needs.proofs.reaching.ranks_at.Goals as goal
 
 pub index-requires : goal.index-requires

@@ -1,5 +1,5 @@
 use Rattle.local_mesh.specs.RankSet.{has_at}
-use Rattle.local_mesh.proofs.halo_lists.Steps.{union_at}
+use Rattle.local_mesh.proofs.Public.{union_at}
 use Rattle.chain_needs.proofs.reading.add_at.Goals as goal
 
 pub returns : goal.returns

@@ -5,7 +5,7 @@ use Rattle.bound_program.specs.declared.sites.Arg.{Arg}
 use Rattle.bound_program.specs.Values.{bound_of}
 use Rattle.bound_program.specs.Fits.{site_at}
 use Rattle.chain_model.specs.Slices.{reads_pair}
-use Rattle.local_mesh.proofs.halo_lists.Steps.{any_step}
+use Rattle.local_mesh.proofs.Public.{any_step}
 use Rattle.chain_needs.proofs.reading.read_all.Goals as goal
 
 pub loop-element-preserved : goal.loop-element-preserved

@@ -11,7 +11,7 @@ use Rattle.bound_program.specs.Values.{BoundValue}
 use Rattle.run_model.specs.Windows.{Element, cell_in}
 use Rattle.run_model.specs.Memory.{Holds, memory_length, place_of, has_cell, first_memory, FirstMemoryHolds}
 use Rattle.run_model.specs.Programs.{program_of, first_values}
-use Rattle.run_model.proofs.Memory.{inside, dat_there}
+use Rattle.run_model.proofs.Public.{inside, dat_there}
 use Rattle.deep_halo.specs.Places.{block_at, in_block, all_cells}
 use Rattle.deep_halo.proofs.chain_memory.chain_stores.Listing.{more}
 use Rattle.deep_halo.specs.Cells.{Values, BlocksHold, with_target, first_in_last, taken_by_owners, is_below, is_earlier}

@@ -10,7 +10,7 @@ use Rattle.bound_program.specs.Values.{BoundValue}
 use Rattle.run_model.specs.Windows.{Reached, Element, Whole, cell_in, width}
 use Rattle.run_model.specs.Arguments.{dat_width, var_width}
 use Rattle.run_model.specs.Memory.{memory_length, place_of, has_cell}
-use Rattle.run_model.proofs.Memory.{inside, apart, follow, dat_there, var_there, has_dat, has_var}
+use Rattle.run_model.proofs.Public.{inside, apart, follow, dat_there, var_there, has_dat, has_var}
 use Rattle.deep_halo.proofs.chain_memory.Within.{pair_within, variable_within}
 use Rattle.deep_halo.specs.Places.{in_block}
 use Rattle.deep_halo.specs.Cells.{Values, BlocksHold, component_of, is_cell_of, with_target}

@@ -24,15 +24,15 @@ use Rattle.rank_state.specs.Frames.{pane_after, closed}
 use Rattle.kernel_runs.specs.Standing.{stands_at, is_written, Apart}
 use Rattle.kernel_runs.specs.InPlace.{NameTheSame, LeavesUnwritten}
 use Rattle.kernel_runs.specs.Here.{IsHere, core_on_gathered}
-use Rattle.kernel_runs.proofs.in_place.Standings.{at, in_first, in_rest, by_span, gathered_length, gathered_at, first_written, rest_written}
-use Rattle.kernel_runs.proofs.in_place.Standings as standing
+use Rattle.kernel_runs.proofs.Public.{at, in_first, in_rest, by_span, gathered_length, gathered_at, first_written, rest_written}
+use Rattle.kernel_runs.proofs.Public as standing
 use Rattle.bound_program.specs.declared.sites.Arg.{Arg}
 use Rattle.bound_program.specs.Values.{BoundValue, SiteValue}
 use Rattle.run_model.specs.Windows.{Reached, reached, width, cell_in, cells_in, targets, windows, window_cells}
 use Rattle.run_model.specs.Kernels.{kernel_at, constant_values, element_run, run_of}
 use Rattle.run_model.specs.Arguments.{no_arg, arg_at, cell_of, modes_of}
 use Rattle.run_model.specs.Laws.{WindowsAreReached}
-use Rattle.run_model.proofs.Windows.{is_argument}
+use Rattle.run_model.proofs.Public.{is_argument}
 use Rattle.deep_halo.specs.Placed.{place_span, place_spans, arg_place, arg_places, ArePlaced, HoldsWindows, EndsPlaced, PlacedElementsRun}
 
 -- ---- cells among others
@@ -175,7 +175,7 @@ module _ (b : BoundValue) (args : List Arg) (e : ℕ) (place : Cell → ℕ) (fo
       (λ i l. first_written (place_span b args e place t) (of_targets ts) i l)
       (λ i l. rest_written (place_span b args e place t) (of_targets ts) i ∙ each_written ts i l)
 
-  all_within : (n : ℕ) (ts : List Reached) → ((t : Reached) → Rattle.run_model.proofs.Reached.Member ts t → place (cell_in t 0) + width b t ≤ n) → Within n (of_targets ts)
+  all_within : (n : ℕ) (ts : List Reached) → ((t : Reached) → Rattle.run_model.proofs.Public.Member ts t → place (cell_in t 0) + width b t ≤ n) → Within n (of_targets ts)
   all_within n [] h = tt
   all_within n (t ∷ ts) h = (h t (inl refl), all_within n ts (λ u m. h u (inr m)))
 
@@ -207,7 +207,7 @@ module _ (b : BoundValue) (site : SiteValue) (e : ℕ) (k : RKernel) (consts : L
 
   within : Within n ss
   within = all_within b site.args e place placed.follow n (targets b site.args e)
-      (λ t m. (let w = Rattle.run_model.proofs.Reached.by_one (reached b e) site.args t (Rattle.run_model.proofs.Reached.of_different t (map (reached b e) site.args) m) in
+      (λ t m. (let w = Rattle.run_model.proofs.Public.by_one (reached b e) site.args t (Rattle.run_model.proofs.Public.of_different t (map (reached b e) site.args) m) in
       subst (λ u. place (cell_in u 0) + width b u ≤ n) w.2 (placed.within w.0 no_arg w.1)))
 
   apart : Apart ss

@@ -11,7 +11,7 @@ use Rattle.bound_program.specs.Fits.{AllApart}
 use Rattle.run_model.specs.Windows.{Whole, cell_in}
 use Rattle.run_model.specs.Arguments.{no_arg}
 use Rattle.bound_plan.specs.Variables.{reduction_of, reduced_by}
-use Rattle.bound_plan.proofs.Globals.{named_once}
+use Rattle.bound_plan.proofs.Public.{named_once}
 use Rattle.deep_halo.specs.Cells.{Values}
 use Rattle.deep_halo.specs.Globals.{is_on}
 use Rattle.deep_halo.specs.Merging.{Change, changed_by, changed_all}

@@ -13,7 +13,7 @@ use Rattle.bound_program.specs.Fits.{AllApart}
 use Rattle.run_model.specs.Windows.{Whole, cell_in}
 use Rattle.run_model.specs.Arguments.{no_arg}
 use Rattle.bound_plan.specs.Variables.{reduction_of, reduced_by}
-use Rattle.bound_plan.proofs.Globals.{reduced_some, first_reduces, named_once}
+use Rattle.bound_plan.proofs.Public.{reduced_some, first_reduces, named_once}
 use Rattle.deep_halo.specs.Cells.{Values}
 use Rattle.deep_halo.specs.Globals.{is_on, with_global, with_globals}
 use Rattle.lemmas.proofs.Truth.{cases_bool, cond_never, cond_or}

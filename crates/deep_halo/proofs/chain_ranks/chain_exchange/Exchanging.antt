@@ -4,14 +4,14 @@ use Rattle.std.specs.List.{list_any}
 use Rattle.std.proofs.lemmas.Bool.{and_parts, eq-eqb, eqb-true, lt-ltb, le-ltb, false≢true}
 use Rattle.lemmas.specs.Below.{listed}
 use Rattle.lemmas.proofs.Below.{at_listed, length_listed}
-use Rattle.loop_plan.proofs.Numbers.{is_listed}
+use Rattle.loop_plan.proofs.Public.{is_listed}
 use Rattle.mesh_decl.specs.declared.owners.Owners.{Owners}
 use Rattle.mesh_decl.specs.Mesh.{dat_count, dat_set, set_size}
 use Rattle.mesh_decl.specs.Owners.{owner_of}
 use Rattle.schedule_model.specs.Cells.{Cell, Data, Variable, DatCell}
 use Rattle.bound_program.specs.Values.{BoundValue}
 use Rattle.run_model.specs.Memory.{has_cell}
-use Rattle.run_model.proofs.Memory.{dat_there}
+use Rattle.run_model.proofs.Public.{dat_there}
 use Rattle.chain_model.specs.Slices.{needs, owns_pair}
 use Rattle.deep_halo.specs.Places.{block_at}
 use Rattle.deep_halo.specs.Cells.{Values, cleared, taken}

@@ -4,7 +4,7 @@ use Rattle.std.proofs.lemmas.List.{take_all, length-map}
 use Rattle.bound_program.specs.declared.programs.Var.{Var}
 use Rattle.bound_program.specs.Values.{bound_of, var_of}
 use Rattle.bound_program.specs.Fits.{constant_cells}
-use Rattle.run_model.proofs.Constants.{constants_long}
+use Rattle.run_model.proofs.Public.{constants_long}
 use Rattle.deep_halo.proofs.ConstantCounts.{cells_some, cells_none, counted_more}
 use Rattle.deep_halo.proofs.runs.constant_count.Goals.{then-is_some+in_ok-count, else-is_some}
 use Rattle.deep_halo.proofs.runs.constant_count.Goals as goal

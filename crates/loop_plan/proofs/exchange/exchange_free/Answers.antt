@@ -2,7 +2,7 @@ use Rattle.std.proofs.Common.{◌≡◌, false, not, ◌∙◌, ap, length, sym}
 use Rattle.std.specs.Prelude.{◌&&◌, ◌||◌, nat_eq, slice_index_or}
 use Rattle.std.specs.List.{list_any}
 use Rattle.lemmas.specs.Below.{listed}
-use Rattle.local_mesh.proofs.Grouping.{listed_within}
+use Rattle.local_mesh.proofs.Public.{listed_within}
 use Rattle.bound_program.specs.Classes.{modifies}
 use Rattle.loop_plan.specs.Needs.{needs}
 use Rattle.loop_plan.proofs.Numbers.{is_listed, bit_step}

@@ -1,7 +1,7 @@
 use Rattle.std.proofs.Common.{◌∙◌, false}
 use Rattle.std.specs.Prelude.{◌&&◌, slice_index_or}
 use Rattle.mesh_decl.specs.Mesh.{dat_count}
-use Rattle.local_mesh.proofs.Grouping.{listed_within}
+use Rattle.local_mesh.proofs.Public.{listed_within}
 use Rattle.bound_program.specs.Values.{bound_of}
 use Rattle.loop_plan.specs.Needs.{item_needs}
 use Rattle.loop_plan.proofs.items.plan_item.Goals as goal

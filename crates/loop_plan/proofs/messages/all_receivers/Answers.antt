@@ -1,7 +1,7 @@
 use Rattle.std.proofs.Common.{◌≡◌, ◌∙◌, ℕ, ap, arith, List, Vec, length}
 use Rattle.std.specs.declared.alloc.Global.{Global}
 use Rattle.std.proofs.lemmas.List.{length_push}
-use Rattle.local_mesh.proofs.halo_lists.SetsReading.{sets_more, sets_has_more}
+use Rattle.local_mesh.proofs.Public.{sets_more, sets_has_more}
 use Rattle.loop_plan.specs.Exports.{exports_in, is_some_exported}
 use Rattle.loop_plan.proofs.messages.all_receivers.Goals as goal
 

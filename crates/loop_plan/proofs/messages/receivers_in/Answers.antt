@@ -1,5 +1,5 @@
 use Rattle.std.proofs.Common.{◌∙◌}
-use Rattle.local_mesh.proofs.halo_lists.SetsReading.{sets_read}
+use Rattle.local_mesh.proofs.Public.{sets_read}
 use Rattle.loop_plan.proofs.messages.receivers_in.Goals as goal
 
 pub returns : goal.returns

@@ -7,7 +7,7 @@ use Rattle.bound_program.specs.Refusals.{least_from, found_over}
 use Rattle.main_declarations.specs.Declarations.{place_found}
 use Rattle.main_declarations.specs.Targets.{shape_found}
 use Rattle.main_declarations.specs.Walks.{declared_of}
-use Rattle.bound_program.proofs.refusals.Firsts.{first_of_three}
+use Rattle.bound_program.proofs.Public.{first_of_three}
 use Rattle.main_declarations.proofs.map_walk.first_in_shape.Goals as goal
 
 pub returns : goal.returns

@@ -6,7 +6,7 @@ use Rattle.bound_program.specs.Limits.{max_dats}
 use Rattle.bound_program.specs.Refusals.{least_from, found_over}
 use Rattle.main_declarations.specs.Declarations.{place_found, dat_found}
 use Rattle.main_declarations.specs.Walks.{declared_of}
-use Rattle.bound_program.proofs.refusals.Firsts.{first_of_three}
+use Rattle.bound_program.proofs.Public.{first_of_three}
 use Rattle.main_declarations.proofs.mesh_walk.first_in_dat.Goals as goal
 
 pub returns : goal.returns

@@ -2,7 +2,7 @@ use Rattle.std.proofs.Common.{◌≡◌, ◌∙◌, sym, ap, rules, arith}
 use Rattle.std.proofs.lemmas.Grind.{common_steps}
 use Rattle.c_tree.specs.Tree as tree
 use Rattle.c_tree.specs.View.{stmt_of, stmts_of}
-use Rattle.c_tree.proofs.Blocks.{stmt_block}
+use Rattle.c_tree.proofs.Public.{stmt_block}
 use Rattle.kernel_model.specs.View.{rstmts_of}
 use Rattle.name_resolution.specs.Kernels.{steps}
 use Rattle.name_resolution.proofs.Steps.{fits_push, joined, joined_none, steps_turn, steps_first, steps_own, steps_next, behind_low, stmt_keeps, stmts_keep}

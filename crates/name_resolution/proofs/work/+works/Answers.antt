@@ -2,7 +2,7 @@ use Rattle.std.proofs.Common.{◌≡◌, ◌∙◌, ap, rules, arith}
 use Rattle.std.proofs.lemmas.Grind.{common_steps}
 use Rattle.c_tree.specs.Tree.{Block}
 use Rattle.c_tree.specs.View.{stmt_of, stmts_of}
-use Rattle.c_tree.proofs.Blocks.{stmt_block}
+use Rattle.c_tree.proofs.Public.{stmt_block}
 use Rattle.name_resolution.proofs.work.+works.Goals as goal
 
 pub work-returns-in-Block : goal.work-returns-in-Block

@@ -3,7 +3,7 @@ use Rattle.command_words.specs.Values.{options_in, chain_options_in, input_in}
 use Rattle.answers.specs.Answers.{CommandAnswers}
 use Rattle.command_words.specs.Halts.{answer_of}
 use Rattle.op2_command.proofs.Chained.{over_all}
-use Rattle.job_inputs.proofs.Lent.{all_right}
+use Rattle.job_inputs.proofs.Public.{all_right}
 use Rattle.op2_command.proofs.Lent.{state_lent, parting_lent, plan_lent, schedule_lent}
 use Rattle.op2_command.proofs.answered.to_asked.Goals as goal
 

@@ -4,7 +4,7 @@ use Rattle.bound_program.specs.Values.{bound_of}
 use Rattle.command_words.specs.Words.{names_by}
 use Rattle.command_words.specs.Values.{chain_job_in, chain_options_in, input_in}
 use Rattle.answers.specs.Answers.{ChainAnswers}
-use Rattle.job_inputs.proofs.Jobs.{input_next, own_next, job_halted, job_answered}
+use Rattle.job_inputs.proofs.Public.{input_next, own_next, job_halted, job_answered}
 use Rattle.op2_command.proofs.answered.to_chains.Goals as goal
 
 pub bound_input-requires-clause-next : goal.bound_input-requires-clause-next

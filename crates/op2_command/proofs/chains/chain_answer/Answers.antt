@@ -8,7 +8,7 @@ use Rattle.bound_plan.specs.Memories.{unless_stopped}
 use Rattle.chain_model.specs.Outcomes.{chains_run, dump_after}
 use Rattle.chain_model.specs.Laws.{Chainable}
 use Rattle.answers.specs.Answers.{ran}
-use Rattle.job_inputs.proofs.Chained.{if_ok_weaker}
+use Rattle.job_inputs.proofs.Public.{if_ok_weaker}
 use Rattle.op2_command.proofs.chains.chain_answer.Goals as goal
 
 -- behind a stop there is no dump

@@ -6,7 +6,7 @@ use Rattle.bound_program.specs.Values.{bound_of}
 use Rattle.command_words.specs.Values.{chain_job_in, chain_options_in}
 use Rattle.command_words.specs.Lines.{Answer}
 use Rattle.answers.specs.Answers.{chain_answer}
-use Rattle.job_inputs.proofs.Jobs.{owned_unread, owned_refused, owned_answered}
+use Rattle.job_inputs.proofs.Public.{owned_unread, owned_refused, owned_answered}
 use Rattle.op2_command.proofs.chains.chained.Goals as goal
 
 pub returns-in_err-text : goal.returns-in_err-text

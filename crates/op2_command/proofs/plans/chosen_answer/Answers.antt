@@ -7,9 +7,8 @@ use Rattle.command_words.specs.Words.{names_by, names_in_blocks, names_at}
 use Rattle.command_words.specs.Values.{options_in, job_in}
 use Rattle.answers.specs.Judgements.{AccessesAre}
 use Rattle.job_inputs.specs.Inputs.{chosen_of}
-use Rattle.job_inputs.proofs.Jobs.{next_first, next_then}
+use Rattle.job_inputs.proofs.Public.{next_first, next_then, planning_halted, planning_answered}
 use Rattle.job_inputs.specs.Plans.{planned_of}
-use Rattle.job_inputs.proofs.job_plans.Planning.{planning_halted, planning_answered}
 use Rattle.op2_command.specs.Chains.{ScheduleAnswers}
 use Rattle.op2_command.proofs.InTurn.{schedules_alike}
 use Rattle.op2_command.proofs.plans.chosen_answer.Goals as goal

@@ -4,7 +4,7 @@ use Rattle.bound_program.specs.Fits.{Fits}
 use Rattle.run_model.specs.Ranges.{StartsInRange}
 use Rattle.loop_plan.specs.Planned.{PlannedValue}
 use Rattle.answers.specs.Answers.{ran}
-use Rattle.job_inputs.proofs.Chained.{if_ok_weaker}
+use Rattle.job_inputs.proofs.Public.{if_ok_weaker}
 use Rattle.op2_command.proofs.runs.run_on.Goals as goal
 
 pub run_on_ranks-requires-clause-obey : goal.run_on_ranks-requires-clause-obey

@@ -2,7 +2,7 @@ use Rattle.std.proofs.lemmas.Result.{err_from_is_err_and}
 use Rattle.op_outside.specs.Outside.{Rose}
 use Rattle.command_words.specs.Refusal.{SourceBytes}
 use Rattle.op2_command.specs.Chains.{TextRestores}
-use Rattle.job_inputs.proofs.Jobs.{sole_unread, sole_answered}
+use Rattle.job_inputs.proofs.Public.{sole_unread, sole_answered}
 use Rattle.op2_command.proofs.sources.restored.Goals as goal
 
 pub returns-in_err-bytes : goal.returns-in_err-bytes

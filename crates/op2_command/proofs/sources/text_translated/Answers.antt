@@ -2,7 +2,7 @@ use Rattle.std.proofs.Common.{Err, inl, inr, refl}
 use Rattle.std.proofs.lemmas.Result.{err_from_is_err_and}
 use Rattle.c_tree.specs.View.{program_of}
 use Rattle.command_words.specs.Lines.{refused}
-use Rattle.command_words.proofs.answer_lines.Halts.{stops_weaker}
+use Rattle.command_words.proofs.Public.{stops_weaker}
 use Rattle.answers.specs.Judgements.{TreeIs, TranslationIs}
 use Rattle.op2_command.specs.Chains.{TextTranslates}
 use Rattle.op2_command.proofs.sources.text_translated.Goals as goal

@@ -2,7 +2,7 @@ use Rattle.std.proofs.Common.{◌≡◌, ◌++◌, map, ap, sym, subst, ◌∙�
 use Rattle.std.specs.Prelude.{OnOk}
 use Rattle.c_tree.specs.Tree.{HostBlock}
 use Rattle.c_tree.specs.View.{host_of, hosts_of}
-use Rattle.c_tree.proofs.Blocks.{host_block}
+use Rattle.c_tree.proofs.Public.{host_block}
 use Rattle.op_translate.specs.Answered.{loop_of_found}
 use Rattle.op_translate.specs.Stubs.{loops_of, all_loops_of}
 use Rattle.op_translate.proofs.table.+collects.Goals as goal

@@ -1,7 +1,7 @@
 use Rattle.std.proofs.Common.{◌≡◌, ℕ, ◌<◌, ◌≤◌, Bool, true, false, not, List, length, get_or, arith, ⊎_elim}
 use Rattle.std.specs.List.{count_by}
 use Rattle.std.proofs.lemmas.Bool.{cases_lt}
-use Rattle.renumber.proofs.breadth_order.Walk.{none_left}
+use Rattle.renumber.proofs.Public.{none_left}
 use Rattle.partition.proofs.growth.least_free.Goals as goal
 
 -- where one isn't marked, not all are

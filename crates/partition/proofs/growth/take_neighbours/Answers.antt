@@ -4,8 +4,7 @@ use Rattle.std.proofs.lemmas.List.{length_push, get_or_append_left, get_or_read}
 use Rattle.mesh_decl.specs.Mesh.{MeshValue, IsMapAt, map_count, set_size, map_to}
 use Rattle.renumber.specs.Neighbours.{are_neighbours}
 use Rattle.renumber.specs.Unseen.{AreUnseen}
-use Rattle.renumber.proofs.breadth_order.Near.{neighbours_within}
-use Rattle.renumber.proofs.breadth_order.Walk.{before, all_done, walk_push, marked_set, done_set, done_more}
+use Rattle.renumber.proofs.Public.{neighbours_within, before, all_done, walk_push, marked_set, done_set, done_more}
 use Rattle.partition.specs.Block.{block_start}
 use Rattle.partition.proofs.Giving.{growing_push, growing_closed, next_near_free, by_number}
 use Rattle.partition.proofs.growth.take_neighbours.Goals as goal

@@ -1,9 +1,7 @@
 use Rattle.std.proofs.Common.{refl, length, arith}
 use Rattle.bound_program.specs.Values.{bound_of}
 use Rattle.loop_plan.specs.Values.{plan_of}
-use Rattle.loop_plan.proofs.Ranges.{in_range}
-use Rattle.loop_plan.proofs.Planning.{sets_had}
-use Rattle.loop_plan.proofs.ProperPlan.{is_proper}
+use Rattle.loop_plan.proofs.Public.{in_range, sets_had, is_proper}
 use Rattle.plan_cert.proofs.Judging.{err_is, header_refused, sizes_refused, halos_refused, sites_refused, items_refused, end_refused, is_certified}
 use Rattle.plan_cert.proofs.judge.certify.Goals as goal
 

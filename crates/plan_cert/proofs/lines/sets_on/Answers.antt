@@ -1,5 +1,5 @@
 use Rattle.std.proofs.Common.{◌∙◌}
-use Rattle.loop_plan.proofs.SetReads.{sets_at}
+use Rattle.loop_plan.proofs.Public.{sets_at}
 use Rattle.plan_cert.proofs.lines.sets_on.Goals as goal
 
 pub returns : goal.returns

@@ -1,7 +1,7 @@
 use Rattle.std.proofs.Common.{◌≡◌, ◌++◌, ◌∙◌, ℕ, List, [], ap, refl, arith}
 use Rattle.op_num.specs.Lines.{line_of}
 use Rattle.mesh_decl.specs.Mesh.{MeshValue, dat_count}
-use Rattle.local_mesh.proofs.Grouping.{listed_within}
+use Rattle.local_mesh.proofs.Public.{listed_within}
 use Rattle.bound_program.specs.Values.{ItemValue, bound_of}
 use Rattle.loop_plan.specs.Needs.{item_at, exchanged_at}
 use Rattle.loop_plan.specs.ItemPlans.{plan_in}

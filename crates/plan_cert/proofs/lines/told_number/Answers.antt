@@ -4,7 +4,7 @@ use Rattle.std.proofs.lemmas.Slice.Eq.{strip_prefix_is}
 use Rattle.std.proofs.lemmas.Bool.Decides.{Decides-eqb}
 use Rattle.std.proofs.lemmas.List.{append_cancel_left}
 use Rattle.op_num.specs.CutLines.{Unread}
-use Rattle.op_num.proofs.texts.line_texts.Cutting.{front_there, front_missing}
+use Rattle.op_num.proofs.Public.{front_there, front_missing}
 use Rattle.plan_cert.proofs.Sizing.{no_digits, digits_are, ok_same, ok_no_err}
 use Rattle.plan_cert.proofs.lines.told_number.Goals as goal
 

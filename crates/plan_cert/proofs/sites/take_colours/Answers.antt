@@ -4,8 +4,7 @@ use Rattle.local_mesh.specs.LocalMesh.{IsRankMesh}
 use Rattle.bound_program.specs.Values.{bound_of}
 use Rattle.bound_program.specs.Fits.{site_at}
 use Rattle.loop_plan.specs.Places.{reducing, maps_of}
-use Rattle.loop_plan.proofs.SetReads.{sets_at, maps_at}
-use Rattle.loop_plan.proofs.SitePlanning.{args_are}
+use Rattle.loop_plan.proofs.Public.{sets_at, maps_at, args_are}
 use Rattle.colouring.specs.declared.conflicts.Clash.TheVariants.{Blocks, Places}
 use Rattle.plan_cert.specs.Awaited.{places_in}
 use Rattle.plan_cert.specs.Told.{LineIs}

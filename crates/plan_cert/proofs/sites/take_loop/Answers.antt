@@ -3,7 +3,7 @@ use Rattle.std.proofs.lemmas.List.{length_push, map-append}
 use Rattle.colouring.specs.declared.types.Colours.{Colours}
 use Rattle.bound_program.specs.Values.{bound_of}
 use Rattle.loop_plan.specs.Proper.{Separate, HasColours}
-use Rattle.loop_plan.proofs.SitePlanning.{one_each}
+use Rattle.loop_plan.proofs.Public.{one_each}
 use Rattle.plan_cert.specs.Awaited.{ColoursOf, ColourLists, each_below, awaited_ranks}
 use Rattle.plan_cert.specs.Certified.{lists_of}
 use Rattle.plan_cert.specs.Judged.{FitsAmong}

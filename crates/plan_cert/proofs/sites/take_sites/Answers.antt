@@ -4,7 +4,7 @@ use Rattle.bound_program.specs.Values.{bound_of, site_of}
 use Rattle.loop_plan.specs.Values.{entries_of, site_plan_of}
 use Rattle.loop_plan.specs.Places.{runs_free}
 use Rattle.loop_plan.specs.Proper.{IsSitePlan}
-use Rattle.loop_plan.proofs.SitePlanning.{no_plan, plans_kept, plans_added}
+use Rattle.loop_plan.proofs.Public.{no_plan, plans_kept, plans_added}
 use Rattle.plan_cert.specs.Awaited.{awaited_sites}
 use Rattle.plan_cert.specs.Certified.{colours_in}
 use Rattle.plan_cert.proofs.Reading.{passed_on}

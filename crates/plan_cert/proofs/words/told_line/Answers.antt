@@ -1,7 +1,7 @@
 use Rattle.std.proofs.Common.{◌∙◌, Some, sym, subst}
 use Rattle.std.proofs.lemmas.Slice.Eq.{strip_prefix_is}
 use Rattle.std.proofs.lemmas.Bool.Decides.{Decides-eqb}
-use Rattle.op_num.proofs.texts.line_texts.Cutting.{front_there, front_missing}
+use Rattle.op_num.proofs.Public.{front_there, front_missing}
 use Rattle.plan_cert.specs.Told.{ToldIs}
 use Rattle.plan_cert.proofs.Telling.{first_there, blocks_there, inner_word_there, inner_there, none_behind, word_left, no_word_left, line_told}
 use Rattle.plan_cert.proofs.words.told_line.Goals as goal

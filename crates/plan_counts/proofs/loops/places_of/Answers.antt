@@ -1,6 +1,6 @@
 use Rattle.std.proofs.Common.{◌∙◌, ap}
 use Rattle.loop_plan.specs.Values.{SitePlanValue, site_plan_of}
-use Rattle.loop_plan.proofs.PlanReads.{site_read, site_none}
+use Rattle.loop_plan.proofs.Public.{site_read, site_none}
 use Rattle.plan_counts.proofs.loops.places_of.Goals as goal
 
 pub returns-in-Some : goal.returns-in-Some

@@ -2,7 +2,7 @@ use Rattle.std.proofs.Common.{◌≡◌, ◌<◌, ◌∙◌, List, length, get_o
 use Rattle.std.proofs.lemmas.List.{get_or-map, length-map}
 use Rattle.bound_program.specs.Values.{bound_of, item_of}
 use Rattle.loop_plan.specs.Values.{item_plan_of, plan_of, no_item_plan}
-use Rattle.schedule_check.proofs.Distinct.{are_distinct}
+use Rattle.schedule_check.proofs.Public.{are_distinct}
 use Rattle.plan_counts.specs.Counts.{exchanged_cells}
 use Rattle.plan_counts.specs.Imports.{sent_by}
 use Rattle.plan_counts.specs.Parts.{tally_in, plus, run_tally, items_tally}

@@ -4,7 +4,7 @@ use Rattle.std.specs.Vec.{with_items}
 use Rattle.std.proofs.lemmas.Grind.{common_steps}
 use Rattle.std.proofs.lemmas.List.{get_or_append_left, get_or_push}
 use Rattle.lemmas.proofs.Lists.{refilled}
-use Rattle.rank_state.proofs.rank_memory.Middles.{mid_same, before_mid}
+use Rattle.rank_state.proofs.Public.{mid_same, before_mid}
 use Rattle.rank_program.specs.Jobs.{task_at, no_task, part}
 use Rattle.rank_program.specs.Sound.{setup_in, layout_in, tables_in}
 use Rattle.rank_exec.specs.Tasks.{IsLoaded}

@@ -2,7 +2,7 @@ use Rattle.std.proofs.Common.{◌+◌, sym, ap, subst, ◌∙◌, length}
 use Rattle.schedule_model.specs.Program.{is_loop}
 use Rattle.rank_state.specs.Core.{fault_of}
 use Rattle.rank_state.specs.Ordered.{all_windows, left_in, total_all}
-use Rattle.rank_machine.proofs.Values.{count_values}
+use Rattle.rank_machine.proofs.Public.{count_values}
 use Rattle.rank_program.specs.Sound.{Takes, setup_in, layout_in, tables_in}
 use Rattle.rank_program.specs.ProgramLaws.{each_runs}
 use Rattle.rank_exec.proofs.joins.run_one_on.Goals as goal

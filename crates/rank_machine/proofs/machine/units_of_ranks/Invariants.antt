@@ -1,6 +1,6 @@
 use Rattle.std.proofs.Common.{◌≡◌, map, take}
 use Rattle.rank_state.specs.Starting.{units}
-use Rattle.rank_state.proofs.rank_memory.Views.{lists}
+use Rattle.rank_state.proofs.Public.{lists}
 use Rattle.rank_machine.proofs.machine.units_of_ranks.Given as goal
 
 abbrev pub invariant-loop-memory : goal.invariant-loop-memory

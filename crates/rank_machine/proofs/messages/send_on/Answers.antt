@@ -5,7 +5,7 @@ use Rattle.schedule_model.specs.Flat.{flat_step}
 use Rattle.rank_state.specs.Spans.{total, gathered}
 use Rattle.rank_state.specs.Machine.{State, row}
 use Rattle.rank_state.specs.Shows.{Shows}
-use Rattle.rank_state.proofs.rank_memory.Panes.{gathered_length}
+use Rattle.rank_state.proofs.Public.{gathered_length}
 use Rattle.rank_program.specs.Sound.{setup_in, layout_in, tables_in}
 use Rattle.rank_machine.proofs.messages.send_on.Goals as goal
 

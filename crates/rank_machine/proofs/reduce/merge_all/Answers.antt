@@ -3,7 +3,7 @@ use Rattle.std.proofs.lemmas.List.{set-get_or}
 use Rattle.op_num.specs.Reduction.{merged}
 use Rattle.rank_state.specs.Windows.{operation}
 use Rattle.rank_state.specs.Joins.{merge_rows}
-use Rattle.rank_state.proofs.rank_memory.Views.{lists, row_is}
+use Rattle.rank_state.proofs.Public.{lists, row_is}
 use Rattle.rank_machine.proofs.reduce.merge_all.Goals as goal
 
 set_again : (xs : List ℤ) (i : ℕ) (a b : ℤ) → set (set xs i a) i b ≡ set xs i b

@@ -1,7 +1,7 @@
 use Rattle.std.proofs.Common.{◌≡◌, pos, get_or, set}
 use Rattle.rank_state.specs.Windows.{operation}
 use Rattle.rank_state.specs.Joins.{merge_rows}
-use Rattle.rank_state.proofs.rank_memory.Views.{lists}
+use Rattle.rank_state.proofs.Public.{lists}
 use Rattle.rank_machine.proofs.reduce.merge_all.Given as goal
 
 abbrev pub invariant-loop-row : goal.invariant-loop-row

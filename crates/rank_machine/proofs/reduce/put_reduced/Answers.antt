@@ -1,6 +1,6 @@
 use Rattle.std.proofs.Common.{[], length, get_or, subst}
 use Rattle.rank_state.specs.Windows.{InSlots}
-use Rattle.rank_state.proofs.rank_memory.Views.{lists}
+use Rattle.rank_state.proofs.Public.{lists}
 use Rattle.rank_machine.proofs.reduce.put_reduced.Goals as goal
 
 pub merge_all-requires-clause-rows : goal.merge_all-requires-clause-rows

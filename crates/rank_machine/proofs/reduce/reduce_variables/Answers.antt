@@ -1,7 +1,7 @@
 use Rattle.std.proofs.Common.{◌+◌, [], ◌∷◌, length, get_or, drop, sym, subst, ◌∙◌}
 use Rattle.rank_state.specs.declared.scalars.Scalar.TheVariants.{Value}
 use Rattle.rank_state.specs.Windows.{Reads}
-use Rattle.rank_state.proofs.rank_memory.Views.{lists}
+use Rattle.rank_state.proofs.Public.{lists}
 use Rattle.rank_machine.proofs.FromIndex.{next, merges_next, reduce_next}
 use Rattle.rank_machine.proofs.reduce.reduce_variables.Goals as goal
 

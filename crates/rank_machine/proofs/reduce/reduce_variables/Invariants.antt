@@ -1,7 +1,7 @@
 use Rattle.std.proofs.Common.{◌≡◌, ◌<◌, ℕ, [], drop, length, get_or}
 use Rattle.rank_state.specs.Windows.{Reads, Merges}
 use Rattle.rank_state.specs.Joins.{reduce_all}
-use Rattle.rank_state.proofs.rank_memory.Views.{lists}
+use Rattle.rank_state.proofs.Public.{lists}
 use Rattle.rank_machine.proofs.reduce.reduce_variables.Given as goal
 
 abbrev pub invariant-loop-scalar : goal.invariant-loop-scalar

@@ -4,7 +4,7 @@ use Rattle.std.proofs.lemmas.Bool.{cases_eq}
 use Rattle.std.proofs.lemmas.List.{ext_get_or, get_or-map, length-map}
 use Rattle.rank_state.specs.Windows.{Merges}
 use Rattle.rank_state.specs.Joins.{unite}
-use Rattle.rank_state.proofs.rank_memory.Views.{lists, row_is, row_put}
+use Rattle.rank_state.proofs.Public.{lists, row_is, row_put}
 use Rattle.rank_machine.proofs.reduce.unite_all.Goals as goal
 
 pub unite-requires : goal.unite-requires

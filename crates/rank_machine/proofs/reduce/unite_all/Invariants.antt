@@ -1,6 +1,6 @@
 use Rattle.std.proofs.Common.{◌≡◌, ◌<◌, ◌≤◌, ℕ, [], get_or}
 use Rattle.rank_state.specs.Joins.{unite}
-use Rattle.rank_state.proofs.rank_memory.Views.{lists}
+use Rattle.rank_state.proofs.Public.{lists}
 use Rattle.rank_machine.proofs.reduce.unite_all.Given as goal
 
 abbrev pub invariant-loop-i : goal.invariant-loop-i

@@ -2,7 +2,7 @@ use Rattle.std.proofs.Common.{◌<◌, ◌∙◌, sym, ap, subst, List, length}
 use Rattle.local_mesh.specs.declared.types.LocalSet.{LocalSet}
 use Rattle.loop_plan.specs.Pairs.{own_in}
 use Rattle.local_mesh.specs.LocalMesh.{originals_in}
-use Rattle.loop_plan.proofs.SetReads.{own_read, originals_read}
+use Rattle.loop_plan.proofs.Public.{own_read, originals_read}
 use Rattle.schedule_check.proofs.cells.local_set.Goals as goal
 
 pub bounds-sets-set : goal.bounds-sets-set

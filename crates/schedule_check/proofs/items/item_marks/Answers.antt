@@ -4,7 +4,7 @@ use Rattle.loop_plan.specs.Values.{plan_of}
 use Rattle.loop_plan.specs.Needs.{item_at}
 use Rattle.loop_plan.specs.Places.{runs_free}
 use Rattle.loop_plan.specs.StepOutline.{is_free, loop_of}
-use Rattle.loop_plan.proofs.ProperPlan.{loop_below, loop_runs}
+use Rattle.loop_plan.proofs.Public.{loop_below, loop_runs}
 use Rattle.schedule_check.proofs.Loops.{runs_as_free, coloured}
 use Rattle.schedule_check.proofs.items.item_marks.Goals as goal
 

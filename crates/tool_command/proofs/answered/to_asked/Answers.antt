@@ -6,7 +6,7 @@ use Rattle.command_words.specs.Values.{options_in}
 use Rattle.command_words.specs.Halts.{answer_of}
 use Rattle.tool_command.specs.ToolAnswers.{CommandAnswers}
 use Rattle.tool_command.specs.Endings.{names_for, names_for_plan, names_behind, names_of}
-use Rattle.job_inputs.proofs.Lent.{all_left, all_right}
+use Rattle.job_inputs.proofs.Public.{all_left, all_right}
 use Rattle.tool_command.proofs.Wording.{over_all}
 use Rattle.tool_command.proofs.answered.to_asked.Goals as goal
 

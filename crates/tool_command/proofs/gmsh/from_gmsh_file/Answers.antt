@@ -1,7 +1,7 @@
 use Rattle.std.proofs.lemmas.Result.{err_from_is_err_and}
 use Rattle.op_outside.specs.Outside.{Rose}
 use Rattle.command_words.specs.Refusal.{MeshBytes}
-use Rattle.job_inputs.proofs.Jobs.{sole_unread, sole_answered}
+use Rattle.job_inputs.proofs.Public.{sole_unread, sole_answered}
 use Rattle.tool_command.specs.ToolAnswers.{ConversionAnswers}
 use Rattle.tool_command.proofs.gmsh.from_gmsh_file.Goals as goal
 

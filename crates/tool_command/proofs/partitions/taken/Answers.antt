@@ -2,7 +2,7 @@ use Rattle.std.proofs.lemmas.Result.{err_from_is_err_and}
 use Rattle.op_outside.specs.Outside.{Rose}
 use Rattle.bound_program.specs.Values.{bound_of}
 use Rattle.command_words.specs.Refusal.{PartitionBytes}
-use Rattle.job_inputs.proofs.Jobs.{file_unread, file_answered}
+use Rattle.job_inputs.proofs.Public.{file_unread, file_answered}
 use Rattle.tool_command.specs.ToolAnswers.{PartitionTaken}
 use Rattle.tool_command.proofs.partitions.taken.Goals as goal
 

@@ -3,7 +3,7 @@ use Rattle.op_outside.specs.Outside.{Rose}
 use Rattle.bound_program.specs.Values.{bound_of}
 use Rattle.command_words.specs.Refusal.{PrintWeight}
 use Rattle.tool_command.specs.ToolAnswers.{PieceAnswers}
-use Rattle.job_inputs.proofs.Jobs.{file_unread, file_answered}
+use Rattle.job_inputs.proofs.Public.{file_unread, file_answered}
 use Rattle.tool_command.proofs.picks.picked.Goals as goal
 
 pub returns-in_err-bytes : goal.returns-in_err-bytes

@@ -1,6 +1,6 @@
 use Rattle.std.proofs.Common.{None}
 use Rattle.op_outside.specs.Outside.{Rose}
-use Rattle.job_inputs.proofs.Chained.{answers_always}
+use Rattle.job_inputs.proofs.Public.{answers_always}
 use Rattle.bound_program.specs.Values.{bound_of}
 use Rattle.job_inputs.specs.Plans.{planned_of}
 use Rattle.tool_words.specs.Values.{picture_of}

@@ -2,7 +2,7 @@ use Rattle.std.proofs.Common.{Some}
 use Rattle.std.proofs.lemmas.Result.{err_from_is_err_and}
 use Rattle.op_outside.specs.Outside.{Rose}
 use Rattle.command_words.specs.Refusal.{PrintWeight}
-use Rattle.job_inputs.proofs.Jobs.{file_unread, file_answered}
+use Rattle.job_inputs.proofs.Public.{file_unread, file_answered}
 use Rattle.bound_program.specs.Values.{bound_of}
 use Rattle.job_inputs.specs.Plans.{planned_of}
 use Rattle.tool_words.specs.Values.{picture_of}

@@ -4,9 +4,8 @@ use Rattle.op_outside.specs.Outside.{Rose}
 use Rattle.bound_program.specs.Values.{bound_of}
 use Rattle.command_words.specs.Words.{names_by, names_in_blocks}
 use Rattle.command_words.specs.Values.{options_in}
-use Rattle.job_inputs.proofs.Jobs.{next_first, next_then}
+use Rattle.job_inputs.proofs.Public.{next_first, next_then, planning_halted, planning_answered}
 use Rattle.job_inputs.specs.Plans.{planned_of}
-use Rattle.job_inputs.proofs.job_plans.Planning.{planning_halted, planning_answered}
 use Rattle.tool_words.specs.Values.{plan_job_of}
 use Rattle.tool_command.specs.ToolAnswers.{OnPlanned}
 use Rattle.tool_command.specs.Endings.{names_for_plan}

@@ -6,7 +6,7 @@ use Rattle.command_words.specs.Values.{options_in}
 use Rattle.tool_words.specs.Values.{plan_job_of}
 use Rattle.tool_command.specs.ToolAnswers.{PlanJobAnswers}
 use Rattle.tool_command.specs.Endings.{names_behind}
-use Rattle.job_inputs.proofs.Jobs.{input_next, own_next, job_halted, job_answered}
+use Rattle.job_inputs.proofs.Public.{input_next, own_next, job_halted, job_answered}
 use Rattle.tool_command.proofs.planned.on_plan.Goals as goal
 
 pub bound_input-requires-clause-next : goal.bound_input-requires-clause-next

@@ -7,7 +7,7 @@ use Rattle.command_words.specs.declared.answer_lines.call_answer.Answer.{Answer}
 use Rattle.command_words.specs.declared.answer_lines.refusals.Halt.{Halt}
 use Rattle.answers.specs.Judgements.{Planned}
 use Rattle.job_inputs.specs.Chains.{AnswersBy, AnswersFrom}
-use Rattle.job_inputs.proofs.Chained.{answers_always}
+use Rattle.job_inputs.proofs.Public.{answers_always}
 use Rattle.job_inputs.specs.Plans.{planned_of}
 use Rattle.tool_words.specs.Words as words
 use Rattle.tool_words.specs.Words.{TellsOwners, Counts, Draws}

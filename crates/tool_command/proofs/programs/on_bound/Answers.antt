@@ -1,7 +1,7 @@
 use Rattle.std.proofs.Common.{zero, arith}
 use Rattle.op_outside.specs.Outside.{Rose}
 use Rattle.bound_program.specs.Values.{bound_of}
-use Rattle.job_inputs.proofs.Chained.{answers_always}
+use Rattle.job_inputs.proofs.Public.{answers_always}
 use Rattle.tool_command.specs.ToolAnswers.{GraphAnswers}
 use Rattle.tool_command.proofs.programs.on_bound.Goals as goal
 

@@ -5,7 +5,7 @@ use Rattle.command_words.specs.Words.{InFiles}
 use Rattle.tool_words.specs.Values.{job_of}
 use Rattle.tool_command.specs.ToolAnswers.{OnBound}
 use Rattle.tool_command.specs.Endings.{names_for}
-use Rattle.job_inputs.proofs.Jobs.{input_next, own_next, job_halted, job_answered}
+use Rattle.job_inputs.proofs.Public.{input_next, own_next, job_halted, job_answered}
 use Rattle.tool_command.proofs.programs.on_program.Goals as goal
 
 pub bound_input-requires-clause-next : goal.bound_input-requires-clause-next

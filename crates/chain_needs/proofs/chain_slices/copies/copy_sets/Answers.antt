@@ -1,6 +1,6 @@
 use Rattle.std.proofs.Common.{◌≡◌, ◌<◌, length, ◌∙◌, arith}
 use Rattle.std.proofs.lemmas.List.{length_push}
-use Rattle.local_mesh.proofs.halo_lists.SetsReading.{sets_read}
+use Rattle.local_mesh.proofs.Public.{sets_read}
 use Rattle.chain_needs.proofs.chain_slices.Sets.{same_more, same_all}
 use Rattle.chain_needs.proofs.chain_slices.copies.copy_sets.Goals as goal
 

@@ -8,7 +8,7 @@ use Rattle.mesh_decl.specs.Mesh.{set_size, dat_set}
 use Rattle.bound_program.specs.Values.{bound_of}
 use Rattle.chain_model.specs.Slices.{owns_pair}
 use Rattle.chain_needs.specs.PairSets.{pairs_of}
-use Rattle.local_mesh.proofs.halo_lists.Exporting.{lengths_more}
+use Rattle.local_mesh.proofs.Public.{lengths_more}
 use Rattle.chain_needs.proofs.chain_slices.Listing.{listed_others, lists_more}
 use Rattle.chain_needs.proofs.chain_slices.lists.copies_of.Goals as goal
 

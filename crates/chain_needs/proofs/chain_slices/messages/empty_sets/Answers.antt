@@ -1,6 +1,6 @@
 use Rattle.std.proofs.Common.{refl, arith, []}
 use Rattle.std.proofs.lemmas.List.{length_push}
-use Rattle.local_mesh.proofs.rank_sets.Rows.{has_at_past}
+use Rattle.local_mesh.proofs.Public.{has_at_past}
 use Rattle.chain_needs.proofs.chain_slices.Listing.{none_more}
 use Rattle.chain_needs.proofs.chain_slices.messages.empty_sets.Goals as goal
 

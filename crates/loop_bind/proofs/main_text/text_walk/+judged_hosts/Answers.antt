@@ -4,7 +4,7 @@ use Rattle.std.proofs.lemmas.Result.{err_from_is_err_and}
 use Rattle.c_tree.specs.declared.hosts.Host.{Host}
 use Rattle.c_tree.specs.Tree.{HostBlock}
 use Rattle.c_tree.specs.View.{host_of, hosts_of}
-use Rattle.c_tree.proofs.Blocks.{host_block}
+use Rattle.c_tree.proofs.Public.{host_block}
 use Rattle.bound_program.specs.declared.trace.steps.Step.{Step as StepCode}
 use Rattle.main_declarations.specs.Names.{cut, scope_of}
 use Rattle.bound_program.specs.Steps.{Step, Block, followed, one_step}

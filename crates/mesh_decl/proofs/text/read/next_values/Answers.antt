@@ -1,7 +1,7 @@
 use Rattle.std.proofs.Common.{◌≡◌, ◌+◌, ◌++◌, refl, inr, rules, w32, FitsSigned}
 use Rattle.std.proofs.lemmas.Int.{to_z-of_z}
 use lib.ListN.{replicate}
-use Rattle.op_num.proofs.texts.Reading.{passes_on, fewer}
+use Rattle.op_num.proofs.Public.{passes_on, fewer}
 use Rattle.mesh_decl.specs.declared.text.entry.MeshRefusal.TheVariants.{OutOfMemory}
 use Rattle.mesh_decl.specs.Reading.{filled, step, finish}
 use Rattle.mesh_decl.proofs.text.Running.{piece_given, piece_refused, piece_missing}

@@ -1,6 +1,6 @@
 use Rattle.std.proofs.Common.{◌≡◌, ◌+◌, subst, ap, sym, ◌∙◌, inr, arith}
 use Rattle.mesh_decl.specs.Reading.{Between, End, run_from, step, finish}
-use Rattle.op_num.proofs.texts.Reading.{run_refused}
+use Rattle.op_num.proofs.Public.{run_refused}
 use Rattle.mesh_decl.proofs.text.Running.{step-end, run_done, total-more}
 use Rattle.mesh_decl.specs.Spelling.{total, size_of}
 use Rattle.mesh_decl.specs.Answered.{Fitting, next_state}

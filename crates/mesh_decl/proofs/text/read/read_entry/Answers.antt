@@ -4,7 +4,7 @@ use Rattle.mesh_decl.specs.Token.{keyword_of}
 use Rattle.mesh_decl.specs.Piece.{piece_of}
 use Rattle.mesh_decl.specs.declared.text.entry.MeshRefusal.TheVariants.{OutOfMemory}
 use Rattle.mesh_decl.specs.Reading.{Between, OneName, ManyName, End, began, step, finish}
-use Rattle.op_num.proofs.texts.Reading.{run_token, run_refused, run_end, passes_on, further}
+use Rattle.op_num.proofs.Public.{run_token, run_refused, run_end, passes_on, further}
 use Rattle.mesh_decl.proofs.text.Running.{step-between}
 use Rattle.mesh_decl.proofs.text.read.read_entry.Goals as goal
 

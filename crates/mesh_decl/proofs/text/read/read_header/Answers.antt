@@ -2,7 +2,7 @@ use Rattle.std.proofs.Common.{[], Err, ap, sym, ◌∙◌, inr}
 use Rattle.mesh_decl.specs.Token.{is_magic, version_of}
 use Rattle.mesh_decl.specs.declared.text.entry.MeshRefusal.TheVariants.{OutOfMemory}
 use Rattle.mesh_decl.specs.Reading.{Magic, Version, Between, versioned, step, finish}
-use Rattle.op_num.proofs.texts.Reading.{run_token, run_refused, run_end, passes_on}
+use Rattle.op_num.proofs.Public.{run_token, run_refused, run_end, passes_on}
 use Rattle.mesh_decl.proofs.text.Running.{step-magic, step-no_magic, step-version}
 use Rattle.mesh_decl.proofs.text.read.read_header.Goals as goal
 

@@ -1,7 +1,7 @@
 use Rattle.std.proofs.Common.{[], Err, ap, sym, ◌∙◌, inr}
 use Rattle.mesh_decl.specs.declared.text.entry.MeshRefusal.TheVariants.{OutOfMemory}
 use Rattle.mesh_decl.specs.Reading.{ManyName, Count, filled, step, finish}
-use Rattle.op_num.proofs.texts.Reading.{run_end, passes_on, further}
+use Rattle.op_num.proofs.Public.{run_end, passes_on, further}
 use Rattle.mesh_decl.proofs.text.Running.{many_named, many_unnamed, counted, count_refused}
 use Rattle.mesh_decl.proofs.text.read.read_many.Goals as goal
 

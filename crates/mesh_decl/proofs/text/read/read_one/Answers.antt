@@ -2,7 +2,7 @@ use Rattle.std.proofs.Common.{Err, ap, sym, ◌∙◌, inr, rules, w32, FitsSign
 use Rattle.std.proofs.lemmas.Int.{to_z-of_z}
 use Rattle.mesh_decl.specs.declared.text.entry.MeshRefusal.TheVariants.{OutOfMemory}
 use Rattle.mesh_decl.specs.Reading.{OneName, OneValue, step, finish}
-use Rattle.op_num.proofs.texts.Reading.{run_end, passes_on, further}
+use Rattle.op_num.proofs.Public.{run_end, passes_on, further}
 use Rattle.mesh_decl.proofs.text.Running.{one_named, one_unnamed, one_valued, one_refused}
 use Rattle.mesh_decl.proofs.text.read.read_one.Goals as goal
 

@@ -2,7 +2,7 @@ use Rattle.std.proofs.Common.{◌<◌, ◌-◌, [], sym, ap, ◌∙◌, arith, r
 use Rattle.std.proofs.lemmas.Int.{to_z-of_z}
 use Rattle.mesh_decl.specs.declared.text.entry.MeshRefusal.TheVariants.{OutOfMemory}
 use Rattle.mesh_decl.specs.Reading.{filled, run_from, step, finish}
-use Rattle.op_num.proofs.texts.Reading.{passes_on, further}
+use Rattle.op_num.proofs.Public.{passes_on, further}
 use Rattle.mesh_decl.proofs.text.Running.{length-more}
 use Rattle.mesh_decl.proofs.text.read.read_values.Goals as goal
 

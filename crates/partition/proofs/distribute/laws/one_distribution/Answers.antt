@@ -1,4 +1,4 @@
-use Rattle.mesh_decl.proofs.Declared.{in_range}
+use Rattle.mesh_decl.proofs.Public.{in_range}
 use Rattle.partition.proofs.distribute.OneDistribution.{one_distribution}
 use Rattle.partition.proofs.distribute.laws.one_distribution.Goals as goal
 

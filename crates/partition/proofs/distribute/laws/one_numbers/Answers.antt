@@ -1,4 +1,4 @@
-use Rattle.mesh_decl.proofs.Declared.{in_range}
+use Rattle.mesh_decl.proofs.Public.{in_range}
 use Rattle.partition.proofs.distribute.OneOutcome.{one_numbers}
 use Rattle.partition.proofs.distribute.laws.one_numbers.Goals as goal
 

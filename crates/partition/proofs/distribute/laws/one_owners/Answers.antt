@@ -1,4 +1,4 @@
-use Rattle.mesh_decl.proofs.Declared.{dat_at, in_range}
+use Rattle.mesh_decl.proofs.Public.{dat_at, in_range}
 use Rattle.partition.proofs.distribute.OneOutcome.{one_owners}
 use Rattle.partition.proofs.distribute.laws.one_owners.Goals as goal
 

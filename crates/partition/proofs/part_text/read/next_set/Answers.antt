@@ -1,7 +1,7 @@
 use Rattle.std.proofs.Common.{Some, Err, ap, sym, ◌∙◌, inr}
 use Rattle.partition.specs.Token.{keyword_of}
 use Rattle.partition.specs.Reading.{Between, SetName, step, finish}
-use Rattle.op_num.proofs.texts.Reading.{run_end}
+use Rattle.op_num.proofs.Public.{run_end}
 use Rattle.partition.proofs.part_text.Running.{passes_to_set, set_begun, set_named, set_refused, all_done, strays}
 use Rattle.partition.proofs.part_text.read.next_set.Goals as goal
 

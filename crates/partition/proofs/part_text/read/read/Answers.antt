@@ -1,7 +1,7 @@
 use Rattle.std.proofs.Common.{Ok, None, subst, sym, ◌∙◌, inr}
 use Rattle.partition.specs.Reading.{End, step, finish}
 use Rattle.partition.specs.Answered.{LeadsToSet}
-use Rattle.op_num.proofs.texts.Reading.{run_refused}
+use Rattle.op_num.proofs.Public.{run_refused}
 use Rattle.partition.proofs.part_text.Running.{step-end, run_done, all_given}
 use Rattle.partition.proofs.part_text.read.read.Goals as goal
 

@@ -3,7 +3,7 @@ use Rattle.partition.specs.Token.{is_magic, is_version}
 use Rattle.partition.specs.declared.part_text.refusals.PartRefusal.TheVariants.{OutOfMemory}
 use Rattle.partition.specs.Spelling.{no_ranks}
 use Rattle.partition.specs.Reading.{Magic, Version, Between, step, finish}
-use Rattle.op_num.proofs.texts.Reading.{run_token, run_refused, run_end, passes_on}
+use Rattle.op_num.proofs.Public.{run_token, run_refused, run_end, passes_on}
 use Rattle.partition.proofs.part_text.Running.{step-magic, step-no_magic, step-version, step-no_version}
 use Rattle.partition.proofs.part_text.read.read_header.Goals as goal
 

@@ -1,7 +1,7 @@
 use Rattle.std.proofs.Common.{◌-◌, ◌<◌, Err, ap, sym, ◌∙◌, inr, arith}
 use Rattle.partition.specs.declared.part_text.refusals.PartRefusal.TheVariants.{OutOfMemory}
 use Rattle.partition.specs.Reading.{Count, filled, run_from, step, finish}
-use Rattle.op_num.proofs.texts.Reading.{run_end, passes_on, fewer}
+use Rattle.op_num.proofs.Public.{run_end, passes_on, fewer}
 use Rattle.partition.proofs.part_text.Running.{counted, count_refused, rank_given, rank_refused, rank_missing}
 use Rattle.partition.proofs.part_text.read.read_ranks.Goals as goal
 

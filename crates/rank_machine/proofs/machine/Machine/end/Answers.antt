@@ -5,7 +5,7 @@ use Rattle.rank_state.specs.Spans.{total}
 use Rattle.rank_state.specs.Frames.{Panes, pane_at, closed}
 use Rattle.rank_state.specs.Machine.{State, row, merged_pane, ended}
 use Rattle.rank_state.specs.Stops.{stop_in}
-use Rattle.rank_state.proofs.rank_memory.Views.{lists, rank_in, row_is, row_put}
+use Rattle.rank_state.proofs.Public.{lists, rank_in, row_is, row_put}
 use Rattle.rank_machine.proofs.machine.Machine.end.Goals as goal
 
 abbrev of_parts : State KernelFault → List (List ℤ) → List (List ℤ) → Panes → State KernelFault

@@ -7,7 +7,7 @@ use Rattle.rank_state.specs.Machine.{State, row}
 use Rattle.rank_state.specs.Spare.{HasSpare}
 use Rattle.rank_state.specs.Stops.{stop_in}
 use Rattle.rank_program.specs.AloneRuns.{Share, Reaches, share_of, with_share}
-use Rattle.rank_state.proofs.rank_memory.Views.{lists, rank_in, row_is, row_put}
+use Rattle.rank_state.proofs.Public.{lists, rank_in, row_is, row_put}
 use Rattle.rank_program.specs.Sound.{setup_in, layout_in, tables_in}
 use Rattle.rank_machine.proofs.machine.Machine.in_place.Goals as goal
 

@@ -4,7 +4,7 @@ use Rattle.rank_state.specs.Frames.{Panes}
 use Rattle.rank_state.specs.Mail.{Box}
 use Rattle.rank_state.specs.Machine.{State}
 use Rattle.rank_state.specs.Starting.{units}
-use Rattle.rank_state.proofs.rank_memory.Views.{lists, same_on_all}
+use Rattle.rank_state.proofs.Public.{lists, same_on_all}
 use Rattle.rank_machine.proofs.machine.Machine.new.Goals as goal
 
 abbrev of_parts : List (List ℤ) → List ℤ → List (List ℤ) → List ℕ → Panes → Box → State KernelFault

@@ -7,7 +7,7 @@ use Rattle.schedule_model.specs.Sequential.{Stop}
 use Rattle.rank_state.specs.Machine.{State}
 use Rattle.rank_state.specs.Spare.{HasSpare}
 use Rattle.rank_state.specs.Stops.{stop_in}
-use Rattle.rank_state.proofs.rank_memory.Views.{lists}
+use Rattle.rank_state.proofs.Public.{lists}
 use Rattle.rank_program.specs.AloneRuns.{Share}
 use Rattle.rank_program.specs.Rooms.{HasRoomOf}
 use Rattle.rank_program.specs.Sound.{tables_in}

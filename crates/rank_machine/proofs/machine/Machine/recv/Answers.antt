@@ -4,7 +4,7 @@ use Rattle.kernel_model.specs.declared.types.faults.KernelFault.{KernelFault}
 use Rattle.rank_state.specs.Mail.{Box, arrived, first_post}
 use Rattle.rank_state.specs.Machine.{State, row, taken}
 use Rattle.rank_state.specs.Stops.{stop_in}
-use Rattle.rank_state.proofs.rank_memory.Views.{lists, rank_in, row_is, row_put}
+use Rattle.rank_state.proofs.Public.{lists, rank_in, row_is, row_put}
 use Rattle.rank_machine.proofs.machine.Machine.recv.Goals as goal
 
 abbrev of_parts : State KernelFault → List (List ℤ) → Box → State KernelFault

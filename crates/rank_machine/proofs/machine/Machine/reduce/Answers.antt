@@ -1,7 +1,7 @@
 use Rattle.std.proofs.Common.{ap}
 use Rattle.kernel_model.specs.declared.types.faults.KernelFault.{KernelFault}
 use Rattle.rank_state.specs.Machine.{State}
-use Rattle.rank_state.proofs.rank_memory.Views.{merges_in}
+use Rattle.rank_state.proofs.Public.{merges_in}
 use Rattle.rank_machine.proofs.machine.Machine.reduce.Goals as goal
 
 pub reduce_variables-requires-clause-rows : goal.reduce_variables-requires-clause-rows

@@ -1,7 +1,7 @@
 use Rattle.std.proofs.Common.{Err, ap, sym, inr}
 use Rattle.schedule_steps.specs.declared.text.refusals.ScheduleTextRefusal.TheVariants.{OutOfMemory}
 use Rattle.schedule_steps.specs.Reading.{Numbers, step, finish}
-use Rattle.op_num.proofs.texts.Reading.{run_end, passes_on}
+use Rattle.op_num.proofs.Public.{run_end, passes_on}
 use Rattle.schedule_steps.proofs.text.Running.{number_leads}
 use Rattle.schedule_steps.proofs.text.read.next_number.Goals as goal
 

@@ -2,7 +2,7 @@ use Rattle.std.proofs.Common.{[], ◌∷◌, ◌++◌, Some, None, Ok, Err, ap, 
 use Rattle.schedule_steps.specs.declared.text.refusals.ScheduleTextRefusal.TheVariants.{OutOfMemory}
 use Rattle.schedule_steps.specs.Spelling.{at_line}
 use Rattle.schedule_steps.specs.Reading.{First, Between, Numbers, step, finish, run_from}
-use Rattle.op_num.proofs.texts.Reading.{run_end, passes_on, further}
+use Rattle.op_num.proofs.Public.{run_end, passes_on, further}
 use Rattle.schedule_steps.proofs.text.Running.{word_taken, word_refused}
 use Rattle.schedule_steps.proofs.text.read.next_step.Goals as goal
 

@@ -1,6 +1,6 @@
 use Rattle.std.proofs.Common.{◌≡◌, length, rules, ap, sym, ◌∙◌, inr}
 use Rattle.schedule_steps.specs.Reading.{End, run_from, step, finish}
-use Rattle.op_num.proofs.texts.Reading.{run_refused}
+use Rattle.op_num.proofs.Public.{run_refused}
 use Rattle.schedule_steps.specs.Answered.{next_state}
 use Rattle.schedule_steps.proofs.text.Running.{step-end, run_done}
 use Rattle.schedule_steps.proofs.text.read.read.Goals as goal

@@ -2,7 +2,7 @@ use Rattle.std.proofs.Common.{[], Err, ap, sym, ◌∙◌, inr}
 use Rattle.schedule_steps.specs.Token.{is_magic, is_version}
 use Rattle.schedule_steps.specs.declared.text.refusals.ScheduleTextRefusal.TheVariants.{OutOfMemory}
 use Rattle.schedule_steps.specs.Reading.{Magic, Version, Between, step, finish}
-use Rattle.op_num.proofs.texts.Reading.{run_token, run_refused, run_end, passes_on}
+use Rattle.op_num.proofs.Public.{run_token, run_refused, run_end, passes_on}
 use Rattle.schedule_steps.proofs.text.Running.{step-magic, step-no_magic, step-version, step-no_version}
 use Rattle.schedule_steps.proofs.text.read.read_header.Goals as goal
 

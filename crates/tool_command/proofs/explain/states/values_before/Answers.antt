@@ -4,7 +4,7 @@ use Rattle.explanations.specs.Faults.{item_in}
 use Rattle.explanations.specs.Values.{free_loop_in}
 use Rattle.answers.specs.Answers.{Answers}
 use Rattle.explanations.specs.Held.{held as held_by}
-use Rattle.job_inputs.proofs.Chained.{if_ok_weaker}
+use Rattle.job_inputs.proofs.Public.{if_ok_weaker}
 use Rattle.tool_command.specs.Named.{named_program}
 use Rattle.tool_command.specs.Loops.{files_begun, StateTells, ValuesOf}
 use Rattle.tool_command.proofs.explain.Telling.{values_are}

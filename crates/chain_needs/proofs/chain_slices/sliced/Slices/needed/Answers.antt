@@ -5,9 +5,9 @@ use Rattle.schedule_model.specs.Tests.{free_kind}
 use Rattle.run_model.specs.Programs.{kind_of, item_at}
 use Rattle.run_model.specs.Laws.{site_of}
 use Rattle.local_mesh.specs.Sets.{sets_in}
-use Rattle.local_mesh.proofs.halo_lists.SetsReading.{sets_read}
+use Rattle.local_mesh.proofs.Public.{sets_read}
 use Rattle.chain_model.specs.Slices.{loops_from, needs, needs_before}
-use Rattle.chain_model.proofs.bound_chains.Backwards.{next_loop}
+use Rattle.chain_model.proofs.Public.{next_loop}
 use Rattle.chain_needs.specs.Levels.{IsLevel}
 use Rattle.chain_needs.proofs.chain_slices.Reading.{level_of}
 use Rattle.chain_needs.proofs.chain_slices.sliced.Slices.needed.Goals as goal
