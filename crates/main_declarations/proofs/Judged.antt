@@ -1,7 +1,7 @@
 -- What is so of all that a judgement can give, and what was not found.
-use Rattle.std.proofs.Common.{◌≡◌, ◌<◌, ◌≤◌, ℕ, List, [], ◌∷◌, ◌++◌, Option, Some, None, Ok, Err, Bool, true, false, not, ◌||◌, refl, sym, subst, arith}
-use Rattle.std.specs.Prelude.{IfNone, nat_lt, nat_eq}
-use Rattle.std.proofs.lemmas.Bool.{ltb-false, eqb-true, eqb-false}
+use Rattle.std.proofs.Common.{◌≡◌, ◌<◌, ◌≤◌, ℕ, List, [], ◌∷◌, ◌++◌, Option, Some, None, Ok, Err, Bool, true, false, not, ◌||◌, refl, sym, subst}
+use Rattle.std.specs.Prelude.{IfNone, nat_lt}
+use Rattle.std.proofs.lemmas.Bool.{ltb-false}
 use Rattle.c_tree.specs.declared.lexer.tokens.Pos.{Pos}
 use Rattle.bound_program.specs.declared.refusals.refusals.BindRefusal.{BindRefusal}
 use Rattle.bound_program.specs.declared.refusals.refusals.Counted.{Counted}
@@ -52,10 +52,6 @@ right_nil [] ys e = e
 right_nil (x ∷ xs) ys e = absurd (subst IsNil (sym e) tt)
 
 -- ---- tests that did not hold
-
-abbrev IsFalse : Bool → Type 0
-IsFalse false = Unit {0}
-IsFalse true = ⊥
 
 pub not_in : (turn : Turn) (b : Bool) (t : ℕ) (r : BindRefusal) → found_in turn b t r ≡ [] → b ≡ false
 not_in turn false t r e = refl

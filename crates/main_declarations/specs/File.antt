@@ -4,7 +4,7 @@ use Rattle.std.specs.Map.{lookup}
 use Rattle.c_tree.specs.declared.lexer.tokens.Pos.{Pos}
 use Rattle.c_tree.specs.declared.expressions.Ident.{Ident}
 use Rattle.c_tree.specs.Tree as tree
-use Rattle.c_tree.specs.Tree.{ExprTree, PlaceTree, AssignmentTree, TopTree, OpCallTree, HostTree, HostTrees, HostForHeaderTree}
+use Rattle.c_tree.specs.Tree.{TopTree}
 use Rattle.kernel_model.specs.declared.types.kernels.ConstDecl.{ConstDecl}
 use Rattle.mesh_decl.specs.declared.text.entry.Entry.{Entry}
 use Rattle.mesh_decl.specs.declared.text.entry.Entry.TheVariants.{One, Many}

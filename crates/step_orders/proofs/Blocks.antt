@@ -3,7 +3,7 @@ use Rattle.std.proofs.Common.{◌≡◌, ℕ, zero, suc, ◌<◌, ◌≤◌, ◌
 use Rattle.std.specs.Prelude.{◌==◌, ◌&&◌}
 use Rattle.std.specs.List.{filter, All, flat_map}
 use Rattle.std.proofs.Math.Nat.{div-lt_iff_lt-mul, suc-mul}
-use Rattle.std.proofs.lemmas.Bool.{cases_eq, eq-eqb, ne_eqb}
+use Rattle.std.proofs.lemmas.Bool.{cases_eq, ne_eqb}
 use Rattle.std.proofs.lemmas.Grind.{flat_map-append}
 use Rattle.std.proofs.lemmas.List.Elements.{filter-append, All-append}
 use Rattle.std.proofs.lemmas.Nat.{le-div}
@@ -25,10 +25,6 @@ numbers_stay p n (suc m) le h = ⊎_elim
     ∙ (append-nil (numbers p m) ∙ numbers_stay p n m less (λ x a b. h x a (omega (arith, b)))))
     (cases_eq n (suc m))
 
--- what passes is one more
-pub numbers_more : (p : ℕ → Bool) (n : ℕ) → p n ≡ true → numbers p (n + 1) ≡ numbers p n ++ n ∷ []
-numbers_more p n e = ap (numbers p) (add-one n) ∙ ap (λ b. numbers p n ++ cond b (n ∷ []) []) e
-
 -- what holds of all numbers below the limit holds of those
 pub all_numbers : (P : ℕ → Type 0) (p : ℕ → Bool) (n : ℕ) → ((x : ℕ) → x < n → P x) → All P (numbers p n)
 all_numbers P p zero h = λ i d lt. absurd (omega (arith, lt))
@@ -42,12 +38,6 @@ all_numbers P p (suc n) h =
 -- ---- the places of a block
 
 module _ (s b : ℕ) (some : 0 < s) where
-  pub in_block : (x : ℕ) → b * s ≤ x → x < b * s + s → (x / s == b) ≡ true
-  in_block x le lt =
-      let least : b ≤ x / s = le-div b x s some le in
-      let most : x / s < suc b = (div-lt_iff_lt-mul some).1 (subst (λ n. x < n) (sym (suc-mul b s)) lt) in
-      eq-eqb (x / s) b (omega (arith, least, most))
-
   pub before_block : (x : ℕ) → x < b * s → (x / s == b) ≡ false
   before_block x lt =
       let most : x / s < b = (div-lt_iff_lt-mul some).1 lt in

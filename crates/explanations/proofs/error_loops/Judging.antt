@@ -1,23 +1,23 @@
 -- Which loop gives a judgement.
-use Rattle.std.proofs.Common.{◌≡◌, ◌<◌, ◌≤◌, ◌+◌, ◌↔◌, ℕ, zero, suc, List, [], ◌∷◌, ◌++◌, Bool, true, false, Some, None, Result, Ok, Err, IfOk, map, length, get_or, slice_get, take, drop, All, refl, sym, ap, ◌∙◌, subst, arith}
+use Rattle.std.proofs.Common.{◌≡◌, ◌<◌, ◌≤◌, ◌+◌, ◌↔◌, ℕ, zero, suc, List, [], ◌∷◌, ◌++◌, Bool, true, false, Some, None, Result, Ok, Err, IfOk, map, length, get_or, take, drop, All, refl, sym, ap, ◌∙◌, subst, arith}
 use Rattle.std.specs.Prelude.{IsTrue}
 use Rattle.std.specs.List.{find}
 use Rattle.std.proofs.Math.Seq.{drop-cons}
-use Rattle.std.proofs.lemmas.List.{length-map, take-append-drop, take_all, map-append}
+use Rattle.std.proofs.lemmas.List.{take-append-drop, take_all, map-append}
 use Rattle.std.proofs.lemmas.List.Elements.{All-nil, All-cons}
 use Rattle.c_tree.specs.declared.lexer.tokens.Pos.{Pos}
 use Rattle.kernel_model.specs.declared.types.kernels.RKernel.{RKernel}
 use Rattle.kernel_model.specs.Resolved.{IsResolved, AreResolved}
-use Rattle.kernel_model.specs.Obeys.{Mode, KernelObeys, mode_at}
+use Rattle.kernel_model.specs.Obeys.{Mode, KernelObeys}
 use Rattle.kernel_model.specs.Refusals.{Rule, ObeysUnlessBroken, OneRefusal, number_of}
 use Rattle.access_check.specs.declared.modes.Mode as code
-use Rattle.access_check.specs.Modes.{model_of, AreSmall}
+use Rattle.access_check.specs.Modes.{model_of}
 use Rattle.explanations.specs.declared.error_loops.calls.LoopCall.{LoopCall}
 use Rattle.explanations.specs.declared.error_loops.judgements.Judgement.{Judgement}
 use Rattle.explanations.specs.Placed.{place_of}
 use Rattle.explanations.specs.Calls.{Call, call_of}
 use Rattle.explanations.specs.Modes.{mode_by}
-use Rattle.explanations.specs.First.{CanBeJudged, IsRefusedSo, SaysSo, GivesBy, Gives, IsGiving, StandsFirst}
+use Rattle.explanations.specs.First.{IsRefusedSo, SaysSo, Gives, IsGiving, StandsFirst}
 
 -- ---- one kernel
 
@@ -52,25 +52,6 @@ pub obeys_so : (j : Judgement) (k : RKernel) (modes : List Mode) → ObeysUnless
 obeys_so j k modes law h = (λ t. absurd (let f : ⊥ = cc in f), λ r. absurd ((law k modes).0 h r.0 r.1 r.2.breaks))
 
 -- ---- one loop
-
-module _ (j : Judgement) (k : RKernel) (c : Call) (ms : List code.Mode) (same : map model_of ms ≡ map mode_by c.args) where
-  can : (length ms ≡ k.params) × AreSmall ms → CanBeJudged k (map mode_by c.args)
-  can h =
-      let long : length (map mode_by c.args) ≡ length ms = sym (ap (λ (l : List Mode). length l) same) ∙ length-map ms model_of in
-      record { takes = long ∙ h.0; few = omega (arith, long, h.1.0); small = λ a. subst (λ l. (mode_at l a).dim ≤ 64) same (h.1.1 a) }
-
-  cannot : CanBeJudged k (map mode_by c.args) → (length ms ≡ k.params) × AreSmall ms
-  cannot h =
-      let long : length ms ≡ length (map mode_by c.args) = sym (length-map ms model_of) ∙ ap (λ (l : List Mode). length l) same in
-      (long ∙ h.takes, (omega (arith, long, h.few), λ a. subst (λ l. (mode_at l a).dim ≤ 64) (sym same) (h.small a)))
-
-  pub gives_by : (b : Bool) → (length ms ≡ k.params) × AreSmall ms → SaysSo j k (map model_of ms) b → IsTrue b ↔ GivesBy j k c
-  gives_by b h says =
-      (λ t. record { judged = can h; refused = subst (IsRefusedSo j k) same (says.0 t) }, λ g. says.1 (subst (IsRefusedSo j k) (sym same) g.refused))
-
-  pub gives_none : (b : Bool) → (IsTrue b ↔ ((length ms ≡ k.params) × AreSmall ms)) → b ≡ false → IsTrue false ↔ GivesBy j k c
-  gives_none b h isnt =
-      (λ t. absurd (let f : ⊥ = cc in f), λ g. absurd (let t : IsTrue b = h.1 (cannot g.judged) in let f : ⊥ = cc in f))
 
 -- ---- loops in order
 
@@ -125,12 +106,6 @@ none_left ks j xs i none h = subst (λ l. All (λ e. IsGiving ks j e None) (map 
 pub weaker : {X E : Type 0} (r : Result X E) (P Q : X → Type 0) → ((x : X) → P x → Q x) → IfOk r P → IfOk r Q
 weaker (Ok x) P Q step h = step x h
 weaker (Err e) P Q step h = tt
-
--- what is so of all is so of the one that is got
-pub all_got : {A B : Type 0} (P : B → Type 0) (f : A → B) (xs : List A) (i : ℕ) (x : A) → All P (map f xs) → slice_get xs i ≡ Some x → P (f x)
-all_got P f [] i x h e = absurd (let bad : ⊥ = cc in bad)
-all_got P f (y ∷ ys) zero x h e = (let is : y ≡ x = cc in subst (λ z. P (f z)) is (h 0 (f y) (omega arith)))
-all_got P f (y ∷ ys) (suc i) x h e = all_got P f ys i x (λ k d l. h (suc k) d (omega (arith, l))) e
 
 pub err_no_ok : {X E : Type 0} (e : E) (x : X) → Err e ≡ Ok x → ⊥
 err_no_ok e x p = (let bad : ⊥ = cc in bad)

@@ -8,7 +8,7 @@ use Rattle.std.proofs.Math.Numerals.{one-add, add-one}
 use Rattle.std.proofs.Math.Seq.{drop-cons}
 use Rattle.std.specs.Char.{is_ascii_digit}
 use Rattle.std.specs.List.{prefix_len}
-use Rattle.op_num.specs.Spelling.{number_after, number_of, integer_of, negated, plain}
+use Rattle.op_num.specs.Spelling.{number_after, number_of, negated}
 use Rattle.op_num.specs.Cut.{blank, dark}
 use Rattle.op_num.specs.Short.{with_len, front_number, front_integer}
 
@@ -125,10 +125,6 @@ pub small_some : (b : Bool) (v n : ℕ) (r : Option (ℕ × ℕ)) → r ≡ cond
 small_some true v n r e h = rw e h
 small_some false v n r e h = rw e tt
 
-pub within_some : (b : Bool) (v n m : ℕ) (r : Option (ℕ × ℕ)) → r ≡ cond b (Some (v, n)) None → n ≤ m → IfSome r (λ x. x.1 ≤ m)
-within_some true v n m r e h = rw e h
-within_some false v n m r e h = rw e tt
-
 -- its value behind a sign
 pub neg_value : (n : ℕ) → n < 2 ^ 31 → to_z w32 (of_z w32 (pos 0 -ℤ to_z w32 n)) ≡ neg_ℤ (pos n)
 neg_value n h = grind (arith, ints, to_z-of_z)
@@ -138,30 +134,13 @@ abbrev pub minus : Option (ℕ × ℕ) → Option (ℤ × ℕ)
 minus None = None
 minus (Some r) = Some (neg_ℤ (pos r.0), r.1 + 1)
 
-abbrev pub plus : Option (ℕ × ℕ) → Option (ℤ × ℕ)
-plus None = None
-plus (Some r) = Some (pos r.0, r.1)
-
 minus_by : (b : Bool) (k : ℕ) (o : Option ℕ) → cond b (with_len (suc k) (negated o)) None ≡ minus (cond b (with_len k o) None)
 minus_by true k None = refl
 minus_by true k (Some n) = ap (λ j. Some (neg_ℤ (pos n), j)) (sym (add-one k))
 minus_by false k o = refl
-
-plus_by : (b : Bool) (k : ℕ) (o : Option ℕ) → cond b (with_len k (plain o)) None ≡ plus (cond b (with_len k o) None)
-plus_by true k None = refl
-plus_by true k (Some n) = refl
-plus_by false k o = refl
 
 pub front-minus : (ds : List ℕ) → front_integer (45 ∷ ds) ≡ minus (front_number 8 ds)
 front-minus ds =
     let k = prefix_len dark ds in
     let e : nat_le (suc k) 9 ≡ nat_le k 8 = grind (arith, nat_tests) in
     rw (one-add (prefix_len dark ds)) (ap (λ b. cond b (with_len (suc k) (negated (number_of (take k ds)))) None) e ∙ minus_by (nat_le k 8) k (number_of (take k ds)))
-
-plus_dark : (c : ℕ) (cs : List ℕ) (t : Bool) → nat_eq c 45 ≡ false → counted 9 (cond t (1 + prefix_len dark cs) 0) (integer_of (take (cond t (1 + prefix_len dark cs) 0) (c ∷ cs))) ≡ plus (counted 9 (cond t (1 + prefix_len dark cs) 0) (number_of (take (cond t (1 + prefix_len dark cs) 0) (c ∷ cs))))
-plus_dark c cs true m = rw (one-add (prefix_len dark cs)) (rw m (plus_by (nat_le (suc (prefix_len dark cs)) 9) (suc (prefix_len dark cs)) (number_of (c ∷ take (prefix_len dark cs) cs))))
-plus_dark c cs false m = refl
-
-pub front-plus : (bs : List ℕ) → (get_or bs 0 0 ≡ 45 → ⊥) → front_integer bs ≡ plus (front_number 9 bs)
-front-plus [] n = refl
-front-plus (c ∷ cs) n = let m : nat_eq c 45 ≡ false = grind (arith, nat_tests) in plus_dark c cs (dark c) m

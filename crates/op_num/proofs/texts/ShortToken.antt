@@ -3,7 +3,7 @@ use Rattle.std.proofs.Common.{◌≡◌, ℕ, suc, zero, ℤ, ◌≤◌, Bool, t
 use Rattle.std.proofs.lemmas.List.{length-take-le}
 use Rattle.std.specs.List.{prefix_len}
 use Rattle.op_num.specs.Spelling.{integer_of}
-use Rattle.op_num.specs.Cut.{dark, words, Uncut, first_of, rest_of, IsDark}
+use Rattle.op_num.specs.Cut.{dark, words, Uncut, first_of, IsDark}
 use Rattle.op_num.specs.Short.{short_of, with_len, front_integer}
 use Rattle.op_num.proofs.texts.Cutting.{no_token, a_token}
 

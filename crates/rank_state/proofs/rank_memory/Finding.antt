@@ -15,10 +15,6 @@ first_with s r p ps false = refl
 first_cons : (s r : ℕ) (l : Letter) (ls : List Letter) (cs : List ℤ) → first_post s r (posts_in (l ∷ ls) cs) ≡ cond (letter_of s r l) (Some (post_of l cs)) (first_post s r (posts_in ls cs))
 first_cons s r l ls cs = first_with s r (post_of l cs) (posts_in ls cs) l.is_read
 
-later : (s r : ℕ) (l : Letter) (ls : List Letter) → letter_of s r l ≡ false → index_of s r (l ∷ ls) < length (l ∷ ls) → index_of s r ls < length ls
-later s r l ls e h =
-    let k : suc (index_of s r ls) < suc (length ls) = subst (λ b. cond b 0 (suc (index_of s r ls)) < suc (length ls)) e h in omega arith
-
 pub has_letter : (s r k n : ℕ) (ls : List Letter) (cs : List ℤ) → Carries_as k n (first_post s r (posts_in ls cs)) → index_of s r ls < length ls
 has_letter s r k n [] cs h = absurd h
 has_letter s r k n (l ∷ ls) cs h =

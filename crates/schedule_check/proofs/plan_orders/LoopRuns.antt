@@ -163,41 +163,7 @@ slot_set runs slot new l =
 slot_other : (runs : List (Vec (List (List ℕ)) Global)) (slot k : ℕ) (new : Vec (List (List ℕ)) Global) → (k ≡ slot → ⊥) → slot_runs (set runs slot new) k ≡ slot_runs runs k
 slot_other runs slot k new ne = ap (λ z. get_or z k []) (map-set items runs slot new) ∙ get_or-set_other (map items runs) slot k new.items [] ne
 
--- no runs, with one more slot
-pub none_more : (runs : List (Vec (List (List ℕ)) Global)) (one : Vec (List (List ℕ)) Global) → one.items ≡ []
-    → ((k : ℕ) → slot_runs runs k ≡ [])
-    → (k : ℕ) → slot_runs (runs ++ one ∷ []) k ≡ []
-none_more [] one e h zero = e
-none_more [] one e h (suc k) = refl
-none_more (v ∷ runs) one e h zero = h zero
-none_more (v ∷ runs) one e h (suc k) = none_more runs one e (λ i. h (suc i)) k
-
 module _ (ranks block g : ℕ) (v : SharedValue) (n : ℕ) where
-  -- a loop without a slot changes nothing
-  pub runs_kept : (runs : List (Vec (List (List ℕ)) Global)) → None ≡ lookup (nat_eq n) v.slots → AreSlotRuns ranks block g v n runs → AreSlotRuns ranks block g v (n + 1) runs
-  runs_kept runs none are = record {
-    each = are.each;
-    loops = λ s k l h. ⊎_elim
-        (λ (e : s ≡ n). absurd (none-some k (none ∙ (ap (λ z. lookup (nat_eq z) v.slots) (sym e) ∙ h))))
-        (λ (ne : s ≡ n → ⊥). are.loops s k (omega arith) h)
-        (cases_eq s n);
-  }
-
-  -- nor does one whose slot has its runs
-  pub runs_there : (runs : List (Vec (List (List ℕ)) Global)) (slot : ℕ) → Some slot ≡ lookup (nat_eq n) v.slots
-      → (slot_runs runs slot ≡ [] → ⊥)
-      → AreSlotRuns ranks block g v n runs → AreSlotRuns ranks block g v (n + 1) runs
-  runs_there runs slot is some are = record {
-    each = are.each;
-    loops = λ s k l h. ⊎_elim
-        (λ (e : s ≡ n). of_slot k (same_Some slot k (is ∙ (ap (λ z. lookup (nat_eq z) v.slots) (sym e) ∙ h))))
-        (λ (ne : s ≡ n → ⊥). are.loops s k (omega arith) h)
-        (cases_eq s n);
-  }
-    where
-      of_slot : (k : ℕ) → slot ≡ k → AreRunsOf ranks block g (plan_at v.plans k).colours (slot_runs runs k)
-      of_slot k e = subst (λ z. AreRunsOf ranks block g (plan_at v.plans z).colours (slot_runs runs z)) e
-          (⊎_elim (λ q. absurd (some q)) (λ r. r) (are.each slot))
 
   -- the runs of its slot are put there
   pub runs_put : (runs : List (Vec (List (List ℕ)) Global)) (slot : ℕ) (new : Vec (List (List ℕ)) Global) → slot < length runs

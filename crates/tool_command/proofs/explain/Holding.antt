@@ -1,16 +1,13 @@
 -- Files that are held, one after another.
-use Rattle.std.proofs.Common.{◌≡◌, ◌≢◌, ℕ, zero, suc, ◌<◌, ◌≤◌, inl, inr, Bool, true, false, List, [], ◌∷◌, ◌++◌, length, map, All, get_or, Option, Some, None, is_some, IsSomeAnd, Bor, take, ◌+◌, refl, sym, ap, subst, ◌∙◌, arith}
+use Rattle.std.proofs.Common.{◌≡◌, ◌≢◌, ℕ, zero, suc, ◌<◌, ◌≤◌, Bool, true, false, List, [], ◌∷◌, ◌++◌, length, map, All, get_or, Option, Some, None, is_some, IsSomeAnd, Bor, take, ◌+◌, refl, sym, ap, subst, ◌∙◌, arith}
 use Rattle.std.proofs.lemmas.Slice.Eq.{bytes_eq-Decides}
 use Rattle.std.proofs.lemmas.List.Elements.{All-append}
 use Rattle.std.proofs.lemmas.List.{get_or-map, take_more, length-map, map-append}
 use Rattle.std.proofs.lemmas.List.Quantifiers.{position-Some}
-use Rattle.std.specs.List.{Contains, position}
+use Rattle.std.specs.List.{position}
 use Rattle.std.specs.Str.{bytes_eq}
-use Rattle.op_outside.specs.Outside.{Files, Rose, Holds}
-use Rattle.command_words.specs.declared.answer_lines.refusals.Halt.{Halt}
-use Rattle.command_words.specs.declared.answer_lines.refusals.Halt.TheVariants.{Refused, Failed}
-use Rattle.command_words.specs.declared.answer_lines.refusals.Failure.TheVariants.{Unread, OutOfMemory}
-use Rattle.tool_command.specs.Held.{IsAsFound, AreHeld, CannotHold}
+use Rattle.op_outside.specs.Outside.{Files, Holds}
+use Rattle.tool_command.specs.Held.{IsAsFound, AreHeld}
 
 -- a file is held as it is found
 abbrev pub IsHeld : Option Files → Files → List ℕ → Type 0
@@ -78,22 +75,3 @@ pub one_more : (names : List (Bor (List ℕ))) (k : ℕ) (d : Bor (List ℕ)) �
     → names_in (take k names) ++ (get_or names k d).now ∷ [] ≡ names_in (take (k + 1) names)
 one_more names k d lt =
     sym (ap names_in (take_more names k d lt) ∙ map-append (λ n. n.now) (take k names) (get_or names k d ∷ []))
-
--- an element of a list of one
-pub only : (x y : List ℕ) → Contains (x ∷ []) y → y ≡ x
-only x y (zero, lt, is) = sym is
-only x y (suc k, lt, is) = absurd (omega (arith, lt))
-
--- what can't be held of one name can't be held of more
-pub missing_among : (told : Option Files) (names : List (List ℕ)) (name : List ℕ) (rose more : Type 0) (h : Halt)
-    → Contains names name → (rose → more) → CannotHold told (name ∷ []) rose h → CannotHold told names more h
-missing_among told names name rose more (Refused r) among step c =
-    (c.0, c.1, subst (Contains names) (sym (only name c.0 c.2)) among, c.3)
-missing_among told names name rose more (Failed (Unread n)) among step c =
-    (step c.0, subst (Contains names) (sym (only name n.now c.1)) among)
-missing_among told names name rose more (Failed OutOfMemory) among step c = tt
-
--- the count rose, where it did after it had not fallen
-pub rose_later : (first mid last : ℕ) → first ≤ mid → Rose mid last → Rose first last
-rose_later first mid last le (inl lt) = inl (omega (arith, le, lt))
-rose_later first mid last le (inr full) = inr full

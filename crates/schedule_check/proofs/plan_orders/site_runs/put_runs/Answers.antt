@@ -1,8 +1,8 @@
 use Rattle.std.proofs.Common.{◌<◌, ◌∙◌, sym, subst, length, arith}
 use Rattle.bound_program.specs.Values.{bound_of}
-use Rattle.loop_plan.specs.SharedPlans.{SitePlanValue, site_plan_of, plan_at}
+use Rattle.loop_plan.specs.SharedPlans.{SitePlanValue, site_plan_of}
 use Rattle.schedule_check.specs.Runs.{AreRunsOf}
-use Rattle.schedule_check.proofs.plan_orders.LoopRuns.{has_plan, slot_found, not_both, runs_kept, runs_there, runs_put}
+use Rattle.schedule_check.proofs.plan_orders.LoopRuns.{has_plan, slot_found, not_both, runs_put}
 use Rattle.schedule_check.proofs.plan_orders.site_runs.put_runs.Goals as goal
 
 pub unreachable-requires : goal.unreachable-requires
