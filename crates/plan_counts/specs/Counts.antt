@@ -36,16 +36,19 @@ one_if_some (d ∷ ds) = 1
 abbrev pub exchanged_cells : MeshValue → List RankMesh → ItemPlanValue → ℕ
 exchanged_cells g meshes p = sum_by (λ (q : Pair). cells_between g meshes p.exchange q.from q.to) p.pairs
 
--- of an item: a run of the loop; one with an exchange; its messages; and their cells
+-- 1 where the item runs loop s, and else 0
 abbrev pub runs_of : ℕ → ItemValue → ItemPlanValue → ℕ
 runs_of s i p = cond (runs_it s i) 1 0
 
+-- 1 where it runs the loop and exchanges dats first
 abbrev pub exchanges_of : ℕ → ItemValue → ItemPlanValue → ℕ
 exchanges_of s i p = cond (runs_loop s i) (one_if_some p.exchange) 0
 
+-- how many messages these take
 abbrev pub messages_of : ℕ → ItemValue → ItemPlanValue → ℕ
 messages_of s i p = cond (runs_loop s i) (length p.pairs) 0
 
+-- how many cells are in them
 abbrev pub cells_of : BoundValue → List RankMesh → ℕ → ItemValue → ItemPlanValue → ℕ
 cells_of b meshes s i p = cond (runs_loop s i) (exchanged_cells b.mesh meshes p) 0
 
@@ -69,13 +72,15 @@ owned_of meshes set = sum_below (λ r. own_in (sets_of meshes r) set) (length me
 abbrev pub imbalance_of : List ℕ → ℕ
 imbalance_of places = cond (nat_eq (sum places) 0) 100 (largest places * length places * 100 / sum places)
 
--- the blocks of all ranks, and the most colours of blocks, and of the places of one block, that a rank has
+-- the blocks of all ranks
 abbrev pub blocks_of : List Colours → ℕ
 blocks_of cs = sum_by (λ (c : Colours). length c.blocks.items) cs
 
+-- the most colours of blocks that a rank has
 abbrev pub block_colours_of : List Colours → ℕ
 block_colours_of cs = largest (map (λ (c : Colours). number_of_colours c.blocks.items) cs)
 
+-- the most colours of the places of one block
 abbrev pub inner_colours_of : List Colours → ℕ
 inner_colours_of cs = largest (map (λ (c : Colours). number_of_colours c.inner.items) cs)
 

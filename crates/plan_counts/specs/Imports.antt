@@ -11,6 +11,7 @@ use Rattle.schedule_check.specs.Mail.{imported_from, rows_of}
 abbrev pub Numbers : Type 0
 Numbers = Vec (Vec ℕ Global) Global
 
+-- the numbers of each set, by sender and receiver
 abbrev pub numbers_of : List Numbers → List (List (Vec ℕ Global))
 numbers_of sets = map (λ (n : Numbers). n.items) sets
 

@@ -115,11 +115,12 @@ abbrev pub row_text : (plain : Bool) → Fields → List ℕ
 row_text true fields = line_of fields
 row_text false fields = flat_map padded fields ++ codes "\n"
 
--- what stands before the loops, and behind the totals
+-- what stands before the loops
 abbrev pub head_text : (plain : Bool) → List ℕ
 head_text true = []
 head_text false = row_text false head_fields
 
+-- what stands behind the totals
 abbrev pub legend_text : (plain : Bool) → List ℕ
 legend_text true = []
 legend_text false = LEGEND.now

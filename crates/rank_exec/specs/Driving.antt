@@ -84,7 +84,7 @@ module _ {F : Type 0} (l : Layout F) where
   takes (End k r x) = 0
   takes (Join k) = 0
 
--- frames that a step opens, and that it shuts
+-- frames that a step opens
 abbrev pub opens : Step → ℕ
 opens (Send k s r) = 0
 opens (Recv k r s) = 0
@@ -92,6 +92,7 @@ opens (Begin k r x) = 1
 opens (End k r x) = 0
 opens (Join k) = 0
 
+-- frames that a step shuts
 abbrev pub shuts : Step → ℕ
 shuts (Send k s r) = 0
 shuts (Recv k r s) = 0

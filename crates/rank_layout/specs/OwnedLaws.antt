@@ -42,6 +42,7 @@ pub record HasOwned (b : BoundValue) (o : Owners) (meshes : List RankMesh) (p : 
       → AreOwned (setup_of b o meshes p) (layout_of b o meshes p) (tables_of b p) k e
       (owned_after (owned_by b o meshes lists e) (site_of b k).args []) (map index scalars)
 
+-- whatever the plan, the owned elements of a loop that reduces stand where the tables say
 abbrev pub OwnedStand : Type 0
 OwnedStand =
     (b : BoundValue) (o : Owners) (n : Perms) (meshes : List RankMesh) (p : PlanValue) (h : Halos) (lists : List LocalLists)

@@ -33,6 +33,7 @@ pub record FewExports (g : MeshValue) (ranks : ℕ) (lists : List LocalLists) : 
   pub has : (t s r : ℕ) → t < set_count g → s < ranks → r < ranks → HasList (exports_in lists t) s r
   pub few : (t s r : ℕ) → t < set_count g → s < ranks → r < ranks → length (exported_locals lists t s r) < 2 ^ 32
 
+-- whatever the plan, its lists have what is exported, and are short
 abbrev pub ExportsAreFew : Type 0
 ExportsAreFew =
     (b : BoundValue) (o : Owners) (n : Perms) (meshes : List RankMesh) (p : PlanValue) (h : Halos) (lists : List LocalLists)
@@ -88,6 +89,7 @@ pub record IsSent (b : BoundValue) (o : Owners) (meshes : List RankMesh) (p : Pl
       (spans_of b.mesh m (λ t. exported_locals lists t s r) (item_plan p k).exchange)
   pub some : 0 < total (spans_of b.mesh m (λ t. exported_locals lists t s r) (item_plan p k).exchange)
 
+-- whatever the plan, a send that is a step of it is about the lists of its sender
 abbrev pub SendsStand : Type 0
 SendsStand =
     (b : BoundValue) (o : Owners) (n : Perms) (meshes : List RankMesh) (p : PlanValue) (h : Halos) (lists : List LocalLists)
@@ -107,6 +109,7 @@ pub record IsReceived (b : BoundValue) (o : Owners) (meshes : List RankMesh) (p 
   pub imports : AreImports (setup_of b o meshes p) (layout_of b o meshes p) (tables_of b p) k s r
       (spans_of b.mesh m (λ t. imported_locals lists t r s) (item_plan p k).exchange)
 
+-- and so is a receive about those of its receiver
 abbrev pub ReceivesStand : Type 0
 ReceivesStand =
     (b : BoundValue) (o : Owners) (n : Perms) (meshes : List RankMesh) (p : PlanValue) (h : Halos) (lists : List LocalLists)

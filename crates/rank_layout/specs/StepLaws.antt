@@ -53,6 +53,7 @@ module _ (b : BoundValue) (o : Owners) (meshes : List RankMesh) (p : PlanValue) 
     pub sends : (k s r : ℕ) → IsStep places (Send k s r) → IsMessage k s r
     pub receives : (k r s : ℕ) → IsStep places (Recv k r s) → IsMessage k s r
 
+-- whatever the plan, what its steps are about is there
 abbrev pub StepsStand : Type 0
 StepsStand =
     (b : BoundValue) (o : Owners) (n : Perms) (meshes : List RankMesh) (p : PlanValue)

@@ -24,6 +24,7 @@ pub record Share (F : Type 0) : Type 0 where
 abbrev pub share_of : {F : Type 0} → ℕ → State F → Share F
 share_of r st = record { cells = row st.memories r; partials = row st.partials r; fault = st.fault }
 
+-- the state with another share of the rank
 abbrev pub with_share : {F : Type 0} → ℕ → Share F → State F → State F
 with_share r new st =
     record st { memories = set st.memories r new.cells; partials = set st.partials r new.partials; fault = new.fault }

@@ -18,6 +18,7 @@ use Rattle.rank_program.specs.declared.program.DistributedProgram.{DistributedPr
 use Rattle.rank_program.specs.Sound.{program_in}
 use Rattle.rank_layout.specs.WindowLaws.{arg_span}
 
+-- a span of a rank's cells as a place of a window
 abbrev pub span_place : Span → Place
 span_place s = record { from = s.at; count = s.dim }
 
@@ -26,6 +27,7 @@ abbrev pub arg_stands : MeshValue → RankMesh → ℕ → Place → Arg → Spa
 arg_stands g m place p (Dat d v a) = arg_span g m place (λ e. false) (Dat d v a)
 arg_stands g m place p (Global v a) = record { at = p.from; dim = p.count; writes = true }
 
+-- the same as the place of a window
 abbrev pub arg_place : MeshValue → RankMesh → ℕ → Place → Arg → Place
 arg_place g m place p y = span_place (arg_stands g m place p y)
 

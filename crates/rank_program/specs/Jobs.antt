@@ -15,12 +15,15 @@ use Rattle.rank_program.specs.declared.tasks.Task.{Task}
 use Rattle.rank_program.specs.declared.tasks.Targets.{Targets}
 use Rattle.rank_program.specs.declared.kernel_job.KernelJob.{KernelJob}
 
+-- the task that stands for one that is not there
 abbrev pub no_task : Task
 no_task = record { element = 0; cells = 0 }
 
+-- the task at a place of a list
 abbrev pub task_at : List Task → ℕ → Task
 task_at tasks i = get_or tasks i no_task
 
+-- no targets
 abbrev pub no_targets : Targets
 no_targets = record { places = [] }
 

@@ -72,6 +72,7 @@ names_in n = map (λ name. name.now) n.files.items
 abbrev pub named_program : Program → ProgramNamed
 named_program p = record { input = values.input_in p.input; from_start = p.from_start }
 
+-- the program that is named, if one is
 abbrev pub program_named : Named → Option ProgramNamed
 program_named n = option_map named_program n.program
 

@@ -246,6 +246,7 @@ abbrev pub picture_by : (coords cells : Option (List ℕ)) → Option Shown → 
 picture_by (Some coords) (Some cells) (Some what) = Some (record { coords = coords; cells = cells; shown = what })
 picture_by _ _ _ = None
 
+-- the picture that the words of the tools' own options tell, if they tell all of one
 abbrev pub picture_in : OwnWords → Option Picture
 picture_in w = picture_by w.coords w.cells (shown_by w.halos w.colours)
 

@@ -51,8 +51,6 @@ says_so b j said k modes one (rule, at, is, says) same =
 pub obeys_so : (j : Judgement) (k : RKernel) (modes : List Mode) → ObeysUnlessBroken → KernelObeys k modes → SaysSo j k modes false
 obeys_so j k modes law h = (λ t. absurd (let f : ⊥ = cc in f), λ r. absurd ((law k modes).0 h r.0 r.1 r.2.breaks))
 
--- ---- one loop
-
 -- ---- loops in order
 
 module _ (ks : List RKernel) (j : Judgement) (xs : List LoopCall) (i : ℕ) (x : LoopCall) (lt : i < length xs) (is : x ≡ get_or xs i x) where
