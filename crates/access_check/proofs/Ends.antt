@@ -32,7 +32,11 @@ below_same p q (suc n) h = ap (λ b. b && all_below p n) (h n (omega arith)) ∙
 
 -- ---- the arguments in order
 
-pub end_step : (place : ℕ → Pos) (modes : List Mode) (c d : Covered) → Agree modes c d → (a n : ℕ) (b : Bool) (at : Pos) (found next : Option Breach) → a < n → b ≡ (is_op_write (mode_at modes a).access && opposite (all_below (d a) (mode_at modes a).dim)) → at ≡ place a → next ≡ noted_if b NotAllWritten at found → ends_found place modes c (a + 1) (n - (a + 1)) next ≡ ends_found place modes c a (n - a) found
+pub end_step : (place : ℕ → Pos) (modes : List Mode) (c d : Covered) → Agree modes c d
+    → (a n : ℕ) (b : Bool) (at : Pos) (found next : Option Breach) → a < n
+    → b ≡ (is_op_write (mode_at modes a).access && opposite (all_below (d a) (mode_at modes a).dim)) → at ≡ place a
+    → next ≡ noted_if b NotAllWritten at found → ends_found place modes c (a + 1) (n - (a + 1)) next ≡ ends_found place modes c a (n - a)
+    found
 end_step place modes c d h a n b at found next lt e f g =
     let m : n - a ≡ suc (n - (a + 1)) = omega arith in
     let whole : all_below (c a) (mode_at modes a).dim ≡ all_below (d a) (mode_at modes a).dim = below_same (c a) (d a) (mode_at modes a).dim (λ i l. h a i l) in

@@ -111,4 +111,6 @@ module _ (b : Bool) (r : Rule) (p : Pos) (c : Bool) (s : Rule) (q : Pos) (x : Fo
   pub note_swap : noted_if b r p (noted_if c s q x) ≡ noted_if c s q (noted_if b r p x)
   note_swap =
       first_same (noted_if b r p (noted_if c s q x)) (noted_if c s q (noted_if b r p x)) One one_first
-      (first_iff (noted_if c s q (noted_if b r p x)) Other One (λ w v k. ⊎_elim (λ m. ⊎_elim (λ n. inl (inl n)) (λ n. inr n) m) (λ m. inl (inr m)) k) (λ w v k. ⊎_elim (λ m. ⊎_elim (λ n. inl (inl n)) (λ n. inr n) m) (λ m. inl (inr m)) k) other_first)
+      (first_iff (noted_if c s q (noted_if b r p x)) Other One
+          (λ w v k. ⊎_elim (λ m. ⊎_elim (λ n. inl (inl n)) (λ n. inr n) m) (λ m. inl (inr m)) k)
+          (λ w v k. ⊎_elim (λ m. ⊎_elim (λ n. inl (inl n)) (λ n. inr n) m) (λ m. inl (inr m)) k) other_first)

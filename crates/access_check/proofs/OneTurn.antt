@@ -52,16 +52,26 @@ module _ (modes : List Mode) (body : RStmt) (cs : Counters) (k : ℕ) (e : stmt_
 
 -- turns that are enough find and cover what all turns do
 module _ (modes : List Mode) (body : RStmt) (cs : Counters) (k : ℕ) (is_named : Bool) (e : is_named ≡ false → stmt_names body k ≡ false) where
-  pub enough_cover : (first past end : ℕ) (c : Covered) → Enough is_named first past end → turns_covered (λ i d. covered_after body (with_counter cs k (pos i)) d) first (end - first) c ≡ turns_covered (λ i d. covered_after body (with_counter cs k (pos i)) d) first (past - first) c
+  pub enough_cover : (first past end : ℕ) (c : Covered) → Enough is_named first past end
+      → turns_covered (λ i d. covered_after body (with_counter cs k (pos i)) d) first (end - first) c ≡ turns_covered
+      (λ i d. covered_after body (with_counter cs k (pos i)) d) first (past - first) c
   enough_cover first past end c (inl h) = ap (λ m. turns_covered (λ i d. covered_after body (with_counter cs k (pos i)) d) first (m - first) c) h
   enough_cover first past end c (inr h) =
       let q = h.2 in
       let one : end - first ≡ 1 = omega (arith, q) in
       ap (λ m. turns_covered (λ i d. covered_after body (with_counter cs k (pos i)) d) first m c) one ∙ sym (one_turn_covers modes body cs k (e h.0) first past c h.1)
 
-  pub enough_find : (first past end : ℕ) (c : Covered) (f : Found) → Enough is_named first past end → turns_found modes (λ i d g. stmt_found modes body (with_counter cs k (pos i)) d g) (λ i d. covered_after body (with_counter cs k (pos i)) d) first (end - first) c f ≡ turns_found modes (λ i d g. stmt_found modes body (with_counter cs k (pos i)) d g) (λ i d. covered_after body (with_counter cs k (pos i)) d) first (past - first) c f
-  enough_find first past end c f (inl h) = ap (λ m. turns_found modes (λ i d g. stmt_found modes body (with_counter cs k (pos i)) d g) (λ i d. covered_after body (with_counter cs k (pos i)) d) first (m - first) c f) h
+  pub enough_find : (first past end : ℕ) (c : Covered) (f : Found) → Enough is_named first past end
+      → turns_found modes (λ i d g. stmt_found modes body (with_counter cs k (pos i)) d g)
+      (λ i d. covered_after body (with_counter cs k (pos i)) d) first (end - first) c f ≡ turns_found modes
+      (λ i d g. stmt_found modes body (with_counter cs k (pos i)) d g) (λ i d. covered_after body (with_counter cs k (pos i)) d) first
+      (past - first) c f
+  enough_find first past end c f (inl h) = ap
+      (λ m. turns_found modes (λ i d g. stmt_found modes body (with_counter cs k (pos i)) d g)
+      (λ i d. covered_after body (with_counter cs k (pos i)) d) first (m - first) c f) h
   enough_find first past end c f (inr h) =
       let q = h.2 in
       let one : end - first ≡ 1 = omega (arith, q) in
-      ap (λ m. turns_found modes (λ i d g. stmt_found modes body (with_counter cs k (pos i)) d g) (λ i d. covered_after body (with_counter cs k (pos i)) d) first m c f) one ∙ sym (one_turn_finds modes body cs k (e h.0) first past c f h.1)
+      ap (λ m. turns_found modes (λ i d g. stmt_found modes body (with_counter cs k (pos i)) d g)
+          (λ i d. covered_after body (with_counter cs k (pos i)) d) first m c f) one
+          ∙ sym (one_turn_finds modes body cs k (e h.0) first past c f h.1)

@@ -99,7 +99,9 @@ module _ (modes : List Mode) where
       settled_right own e = settled_expr e
 
   -- turns, each settled
-  settled_turns : (t : ℕ → Covered → Found → Found) (u : ℕ → Covered → Covered) → ((i : ℕ) (c d : Covered) → Within c d → Settled (t i d) (t i c)) → ((i : ℕ) (c d : Covered) → Within c d → Within (u i c) (u i d)) → (i n : ℕ) (c d : Covered) → Within c d → Settled (turns_found modes t u i n d) (turns_found modes t u i n c)
+  settled_turns : (t : ℕ → Covered → Found → Found) (u : ℕ → Covered → Covered)
+      → ((i : ℕ) (c d : Covered) → Within c d → Settled (t i d) (t i c)) → ((i : ℕ) (c d : Covered) → Within c d → Within (u i c) (u i d))
+      → (i n : ℕ) (c d : Covered) → Within c d → Settled (turns_found modes t u i n d) (turns_found modes t u i n c)
   settled_turns t u f g i zero c d h = settled_none
   settled_turns t u f g i (suc n) c d h =
       settled_then (t i d) (t i c) (turns_found modes t u (suc i) n (u i d)) (turns_found modes t u (suc i) n (u i c)) (f i c d h) (settled_turns t u f g (suc i) n (u i c) (u i d) (g i c d h))
@@ -116,7 +118,8 @@ module _ (modes : List Mode) where
     settled_stmt (If' e p a q b) cs c d h =
         settled_then _ _ _ _ (settled_then _ _ _ _ (settled_expr c d h cs e) (settled_stmt a cs c d h)) (settled_stmt b cs c d h)
     settled_stmt (For' k first past p body) cs c d h =
-        settled_turns (λ i x g. stmt_found modes body (with_counter cs k (pos i)) x g) (λ i x. covered_after body (with_counter cs k (pos i)) x) (λ i x y g. settled_stmt body (with_counter cs k (pos i)) x y g)
+        settled_turns (λ i x g. stmt_found modes body (with_counter cs k (pos i)) x g)
+            (λ i x. covered_after body (with_counter cs k (pos i)) x) (λ i x y g. settled_stmt body (with_counter cs k (pos i)) x y g)
         (λ i x y g. within_after body (with_counter cs k (pos i)) x y g) first (past - first) c d h
 
     settled_row : {m : _} → (all : Row_of-RStmt m) (cs : Counters) (c d : Covered) → Within c d → Settled (row_found modes all cs d) (row_found modes all cs c)

@@ -18,7 +18,8 @@ node_other : (xs : List RExpr) (n i : ℕ) (e : RExpr) → i < n → node (set x
 node_other xs n i e h = let ne : i ≢ n = omega arith in rw get_or-set_other refl
 
 -- what holds of the first n nodes, and of one more, holds of the first n + 1
-pub all_below_set : {A : Type 0} (P : RExpr → Type 0) (xs : List A) (f : A → RExpr) (n : ℕ) (a : A) → n < length xs → ((i : ℕ) → i < n → P (node (map f xs) i)) → P (f a) → (i : ℕ) → i < n + 1 → P (node (map f (set xs n a)) i)
+pub all_below_set : {A : Type 0} (P : RExpr → Type 0) (xs : List A) (f : A → RExpr) (n : ℕ) (a : A) → n < length xs
+    → ((i : ℕ) → i < n → P (node (map f xs) i)) → P (f a) → (i : ℕ) → i < n + 1 → P (node (map f (set xs n a)) i)
 all_below_set P xs f n a lt h p =
     let long : n < length (map f xs) = omega (arith, length-map xs f) in
     below_more (λ i. P (node (map f (set xs n a)) i)) n
@@ -64,7 +65,8 @@ module _ (cs : Counters) where
       back : (n : ℕ) → n ≡ suc n - 1
       back n = omega arith
 
-  pub turn_up : {A : Type 0} (xs : List A) (f : A → RExpr) (n : ℕ) (d : A) (x y : Option ℤ) → 0 < n → n ≤ length xs → y ≡ after_left cs (f (get_or xs (n - 1) d)) x → chain (map f xs) (n - 1) y ≡ chain (map f xs) n x
+  pub turn_up : {A : Type 0} (xs : List A) (f : A → RExpr) (n : ℕ) (d : A) (x y : Option ℤ) → 0 < n → n ≤ length xs
+      → y ≡ after_left cs (f (get_or xs (n - 1) d)) x → chain (map f xs) (n - 1) y ≡ chain (map f xs) n x
   turn_up xs f n d x y some fits e =
       let lt : n - 1 < length xs = omega arith in
       ap (chain (map f xs) (n - 1)) (e ∙ ap (λ z. after_left cs z x) (sym (get_or-map f xs (n - 1) d (Number (pos 0)) lt)))

@@ -19,11 +19,13 @@ row_of _ = (_, end_of-RStmt)
 
 -- ---- blocks as lists
 
-found_of_row : (modes : List Mode) (n : _) (row : Row_of-RStmt n) (cs : Counters) (c : Covered) (found : Option Breach) → row_found modes row cs c found ≡ list_found modes (items-the_row-RStmt n row) cs c found
+found_of_row : (modes : List Mode) (n : _) (row : Row_of-RStmt n) (cs : Counters) (c : Covered) (found : Option Breach)
+    → row_found modes row cs c found ≡ list_found modes (items-the_row-RStmt n row) cs c found
 found_of_row modes n end_of-RStmt cs c found = refl
 found_of_row modes n (more_of-RStmt first rest) cs c found = found_of_row modes _ rest cs (covered_after first cs c) (stmt_found modes first cs c found)
 
-pub found_of_block : (modes : List Mode) (all : Vec RStmt Global) (cs : Counters) (c : Covered) (found : Option Breach) → stmt_found modes (Block all) cs c found ≡ list_found modes all.items cs c found
+pub found_of_block : (modes : List Mode) (all : Vec RStmt Global) (cs : Counters) (c : Covered) (found : Option Breach)
+    → stmt_found modes (Block all) cs c found ≡ list_found modes all.items cs c found
 found_of_block modes all cs c found =
     let row = row_of (Block all) in
     found_of_row modes row.0 row.1 cs c found ∙ ap (λ l. list_found modes l cs c found) (items_hidden-the_row-RStmt-0 all)
@@ -57,10 +59,12 @@ names_of_block all k =
 
 -- ---- lists
 
-pub list_same : (modes : List Mode) (items : List RStmt) (cs : Counters) (c d : Covered) → Agree modes c d → (found : Option Breach) → list_found modes items cs c found ≡ list_found modes items cs d found
+pub list_same : (modes : List Mode) (items : List RStmt) (cs : Counters) (c d : Covered) → Agree modes c d → (found : Option Breach)
+    → list_found modes items cs c found ≡ list_found modes items cs d found
 list_same modes [] cs c d h found = refl
 list_same modes (st ∷ rest) cs c d h found =
-    list_same modes rest cs (covered_after st cs c) (covered_after st cs d) (covered_agree modes st cs c d h) (stmt_found modes st cs c found) ∙ ap (list_found modes rest cs (covered_after st cs d)) (stmt_same modes st cs c d h found)
+    list_same modes rest cs (covered_after st cs c) (covered_after st cs d) (covered_agree modes st cs c d h)
+        (stmt_found modes st cs c found) ∙ ap (list_found modes rest cs (covered_after st cs d)) (stmt_same modes st cs c d h found)
 
 pub list_agree : (modes : List Mode) (items : List RStmt) (cs : Counters) (c d : Covered) → Agree modes c d → Agree modes (list_covered items cs c) (list_covered items cs d)
 list_agree modes [] cs c d h = h
@@ -70,10 +74,13 @@ pub agree_then : (modes : List Mode) (c d e : Covered) → Agree modes c d → A
 agree_then modes c d e h k = λ a i l. h a i l ∙ k a i l
 
 -- one statement of a list
-pub found_step : (modes : List Mode) (st : RStmt) (rest : List RStmt) (cs : Counters) (c d : Covered) (found next : Option Breach) → Agree modes (covered_after st cs c) d → next ≡ stmt_found modes st cs c found → list_found modes rest cs d next ≡ list_found modes (st ∷ rest) cs c found
+pub found_step : (modes : List Mode) (st : RStmt) (rest : List RStmt) (cs : Counters) (c d : Covered) (found next : Option Breach)
+    → Agree modes (covered_after st cs c) d → next ≡ stmt_found modes st cs c found
+    → list_found modes rest cs d next ≡ list_found modes (st ∷ rest) cs c found
 found_step modes st rest cs c d found next h e = ap (list_found modes rest cs d) e ∙ sym (list_same modes rest cs (covered_after st cs c) d h (stmt_found modes st cs c found))
 
-pub covered_step : (modes : List Mode) (st : RStmt) (rest : List RStmt) (cs : Counters) (c d : Covered) → Agree modes (covered_after st cs c) d → Agree modes (list_covered (st ∷ rest) cs c) (list_covered rest cs d)
+pub covered_step : (modes : List Mode) (st : RStmt) (rest : List RStmt) (cs : Counters) (c d : Covered)
+    → Agree modes (covered_after st cs c) d → Agree modes (list_covered (st ∷ rest) cs c) (list_covered rest cs d)
 covered_step modes st rest cs c d h = list_agree modes rest cs (covered_after st cs c) d h
 
 -- ---- counters
@@ -91,7 +98,10 @@ counters_with cells k v lt = fun_ext at
 -- ---- turns
 
 module _ (modes : List Mode) (t : ℕ → Covered → Option Breach → Option Breach) (u : ℕ → Covered → Covered) where
-  pub turn_found : ((i : ℕ) (c d : Covered) → Agree modes c d → Agree modes (u i c) (u i d)) → ((i : ℕ) (c d : Covered) → Agree modes c d → (found : Option Breach) → t i c found ≡ t i d found) → (i past : ℕ) (c d : Covered) (found next : Option Breach) → i < past → Agree modes (u i c) d → next ≡ t i c found → turns_found modes t u (i + 1) (past - (i + 1)) d next ≡ turns_found modes t u i (past - i) c found
+  pub turn_found : ((i : ℕ) (c d : Covered) → Agree modes c d → Agree modes (u i c) (u i d))
+      → ((i : ℕ) (c d : Covered) → Agree modes c d → (found : Option Breach) → t i c found ≡ t i d found)
+      → (i past : ℕ) (c d : Covered) (found next : Option Breach) → i < past → Agree modes (u i c) d → next ≡ t i c found
+      → turns_found modes t u (i + 1) (past - (i + 1)) d next ≡ turns_found modes t u i (past - i) c found
   turn_found ih it i past c d found next lt h e =
       let n : past - i ≡ suc (past - (i + 1)) = omega arith in
       ap (turns_found modes t u (i + 1) (past - (i + 1)) d) e
@@ -99,7 +109,8 @@ module _ (modes : List Mode) (t : ℕ → Covered → Option Breach → Option B
       ∙ sym (turns_same modes t u ih it (suc i) (past - (i + 1)) (u i c) d h (t i c found))
       ∙ sym (ap (λ m. turns_found modes t u i m c found) n)
 
-  pub turn_covered : ((i : ℕ) (c d : Covered) → Agree modes c d → Agree modes (u i c) (u i d)) → (i past : ℕ) (c d : Covered) → i < past → Agree modes (u i c) d → Agree modes (turns_covered u i (past - i) c) (turns_covered u (i + 1) (past - (i + 1)) d)
+  pub turn_covered : ((i : ℕ) (c d : Covered) → Agree modes c d → Agree modes (u i c) (u i d)) → (i past : ℕ) (c d : Covered) → i < past
+      → Agree modes (u i c) d → Agree modes (turns_covered u i (past - i) c) (turns_covered u (i + 1) (past - (i + 1)) d)
   turn_covered ih i past c d lt h =
       let n : suc (past - (i + 1)) ≡ past - i = omega arith in
       subst (λ m. Agree modes (turns_covered u i m c) (turns_covered u (i + 1) (past - (i + 1)) d)) n
@@ -110,10 +121,13 @@ module _ (modes : List Mode) (t : ℕ → Covered → Option Breach → Option B
   covered_end i past c le = let e : past - i ≡ 0 = omega arith in ap (λ m. turns_covered u i m c) e
 
 -- the turns of a for
-pub turn_ih : (modes : List Mode) (body : RStmt) (cs : Counters) (k : ℕ) → (i : ℕ) (c d : Covered) → Agree modes c d → Agree modes (covered_after body (with_counter cs k (pos i)) c) (covered_after body (with_counter cs k (pos i)) d)
+pub turn_ih : (modes : List Mode) (body : RStmt) (cs : Counters) (k : ℕ) → (i : ℕ) (c d : Covered) → Agree modes c d
+    → Agree modes (covered_after body (with_counter cs k (pos i)) c) (covered_after body (with_counter cs k (pos i)) d)
 turn_ih modes body cs k i c d h = covered_agree modes body (with_counter cs k (pos i)) c d h
 
-pub turn_it : (modes : List Mode) (body : RStmt) (cs : Counters) (k : ℕ) → (i : ℕ) (c d : Covered) → Agree modes c d → (found : Option Breach) → stmt_found modes body (with_counter cs k (pos i)) c found ≡ stmt_found modes body (with_counter cs k (pos i)) d found
+pub turn_it : (modes : List Mode) (body : RStmt) (cs : Counters) (k : ℕ) → (i : ℕ) (c d : Covered) → Agree modes c d
+    → (found : Option Breach) → stmt_found modes body (with_counter cs k (pos i)) c found ≡ stmt_found modes body
+    (with_counter cs k (pos i)) d found
 turn_it modes body cs k i c d h found = stmt_same modes body (with_counter cs k (pos i)) c d h found
 
 -- ---- cells of lists

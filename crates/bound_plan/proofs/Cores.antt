@@ -25,7 +25,8 @@ left : (r : kernel.Ran) (us : List ℤ) → core_of r ≡ Leaves us → slice_in
 left (kernel.Finished l) us h = cc
 left (kernel.Stopped l f) us h = let q : ⊥ = cc in absurd q
 
-module _ (kernels : KernelLaws) (items : ItemLaws) (windows : WindowsAreReached) (law : ElementRunsOnWindows) (shape : ShapeStays) (b : BoundValue) (fits : Fits b) (k : ℕ) (loops : is_loop (kind_of (item_at b k)) ≡ true) (e : ℕ) where
+module _ (kernels : KernelLaws) (items : ItemLaws) (windows : WindowsAreReached) (law : ElementRunsOnWindows) (shape : ShapeStays)
+    (b : BoundValue) (fits : Fits b) (k : ℕ) (loops : is_loop (kind_of (item_at b k)) ≡ true) (e : ℕ) where
   abbrev f : RKernel
   f = (kernel_of kernels items b fits k loops).0
 

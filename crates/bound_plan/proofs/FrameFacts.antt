@@ -106,7 +106,8 @@ module _ (halos : HaloLaws) (b : BoundValue) (o : Owners) (meshes : List RankMes
       (λ t. inr (and_from (nat_lt x (set_size b.mesh (dat_set b.mesh d))) other inside t))
       (or_cases (owns o (dat_set b.mesh d) x r) other h)
 
-module _ (numbers : NumberLaws) (items : ItemLaws) (halos : HaloLaws) (b : BoundValue) (o : Owners) (n : Perms) (meshes : List RankMesh) (p : PlanValue) (pl : Planned b o n meshes p) (k : ℕ) (free : kind_of (item_at b k) ≡ Free) (r : ℕ) (lr : r < o.ranks) where
+module _ (numbers : NumberLaws) (items : ItemLaws) (halos : HaloLaws) (b : BoundValue) (o : Owners) (n : Perms) (meshes : List RankMesh)
+    (p : PlanValue) (pl : Planned b o n meshes p) (k : ℕ) (free : kind_of (item_at b k) ≡ Free) (r : ℕ) (lr : r < o.ranks) where
   -- a rank has a copy of what an argument of an executed element reaches
   reached_copy : (e d : ℕ) (v : Option Via) → e < set_size b.mesh (site_of b k).set → setup.executes (setup_of b o meshes p) k r e ≡ true → ViaFits b (site_of b k).set d v
       → has_copy b.mesh o (dat_set b.mesh d) (element_by b v e) r ≡ true

@@ -31,7 +31,9 @@ module _ (b : BoundValue) where
     array (x ∷ xs) zero = refl
     array (x ∷ xs) (suc a) = array xs a
 
-    target_is : (xs : List Arg) (a : ℕ) → a < length xs → target_at (map (λ x. window_of b (targets b (dats_first site.args) e) (reached b e x)) xs) a ≡ window_of b (targets b (dats_first site.args) e) (reached b e (get_or xs a no_arg))
+    target_is : (xs : List Arg) (a : ℕ) → a < length xs
+        → target_at (map (λ x. window_of b (targets b (dats_first site.args) e) (reached b e x)) xs) a ≡ window_of b
+        (targets b (dats_first site.args) e) (reached b e (get_or xs a no_arg))
     target_is xs a l = get_or-map (λ x. window_of b (targets b (dats_first site.args) e) (reached b e x)) xs a no_arg no_target l
 
     -- an argument and where it stands among the arranged ones

@@ -83,7 +83,8 @@ apart_at (x ∷ xs) p (suc i) (suc j) l lj = apart_at xs p.1 i j (omega arith) (
 read_reduces : (a : Access) (o : Reduction) → a ≡ code.Read → reduction_of a ≡ Some o → ⊥
 read_reduces a o e h = none_some o (sym (ap reduction_of e) ∙ h)
 
-both : (xs : List Arg) (i j v : ℕ) (x y : Access) → AreApart (get_or xs i no_arg) (get_or xs j no_arg) → get_or xs i no_arg ≡ Global v x → get_or xs j no_arg ≡ Global v y → (x ≡ code.Read) × (y ≡ code.Read)
+both : (xs : List Arg) (i j v : ℕ) (x y : Access) → AreApart (get_or xs i no_arg) (get_or xs j no_arg) → get_or xs i no_arg ≡ Global v x
+    → get_or xs j no_arg ≡ Global v y → (x ≡ code.Read) × (y ≡ code.Read)
 both xs i j v x y p ei ej = (subst (λ z. AreApart (Global v x) z) ej (subst (λ z. AreApart z (get_or xs j no_arg)) ei p)) refl
 
 -- a variable into which an argument merges amounts has no other argument

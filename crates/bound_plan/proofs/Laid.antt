@@ -23,7 +23,8 @@ use Rattle.bound_plan.proofs.Buffers.{placed, real}
 use Rattle.bound_plan.proofs.Exports.{arrive, exports_own}
 use Rattle.bound_plan.proofs.HostSees.{act_alike}
 
-module _ (numbers : NumberLaws) (items : ItemLaws) (halos : HaloLaws) (kernels : KernelLaws) (frames : FrameLaws) (b : BoundValue) (o : Owners) (n : Perms) (meshes : List RankMesh) (p : PlanValue) (pl : Planned b o n meshes p) where
+module _ (numbers : NumberLaws) (items : ItemLaws) (halos : HaloLaws) (kernels : KernelLaws) (frames : FrameLaws) (b : BoundValue)
+    (o : Owners) (n : Perms) (meshes : List RankMesh) (p : PlanValue) (pl : Planned b o n meshes p) where
   pub is_layout : IsLayout (setup_of b o meshes p) (layout_of b o meshes p)
   is_layout = record {
     run_is = λ k e s loops le. run_is kernels items frames.windows frames.on_windows frames.shape b pl.fits k loops e s;

@@ -35,7 +35,9 @@ use Rattle.run_model.proofs.Public.{mode_is, is_argument}
 use Rattle.bound_plan.proofs.FrameFacts.{among_arg, arg_among}
 use Rattle.lemmas.proofs.Truth.{iff_eq}
 
-module _ (numbers : NumberLaws) (items : ItemLaws) (halos : HaloLaws) (kernels : KernelLaws) (windows : WindowsAreReached) (law : ExactlyModified) (b : BoundValue) (o : Owners) (n : Perms) (meshes : List RankMesh) (p : PlanValue) (pl : Planned b o n meshes p) (k : ℕ) (free : kind_of (item_at b k) ≡ Free) (e : ℕ) where
+module _ (numbers : NumberLaws) (items : ItemLaws) (halos : HaloLaws) (kernels : KernelLaws) (windows : WindowsAreReached)
+    (law : ExactlyModified) (b : BoundValue) (o : Owners) (n : Perms) (meshes : List RankMesh) (p : PlanValue) (pl : Planned b o n meshes p)
+    (k : ℕ) (free : kind_of (item_at b k) ≡ Free) (e : ℕ) where
   abbrev f : RKernel
   f = (kernel kernels items b pl.fits k (ap is_loop free)).0
 
@@ -67,7 +69,8 @@ module _ (numbers : NumberLaws) (items : ItemLaws) (halos : HaloLaws) (kernels :
       iff_eq (is_modified ((setup_of b o meshes p).touch k e (Data c))) (item_modifies b k c.dat && among (frame_cells b (site_of b k).args e) (Data c))
       (λ h. let w = both.0 h in and_from (item_modifies b k c.dat) (among (frame_cells b (site_of b k).args e) (Data c)) w.0 (reached_among c w.1 w.2 w.3))
       (λ h.
-      let w : (item_modifies b k c.dat ≡ true) × (among (frame_cells b (site_of b k).args e) (Data c) ≡ true) = and_parts (item_modifies b k c.dat) (among (frame_cells b (site_of b k).args e) (Data c)) h in
+      let w : (item_modifies b k c.dat ≡ true) × (among (frame_cells b (site_of b k).args e) (Data c) ≡ true) =
+          and_parts (item_modifies b k c.dat) (among (frame_cells b (site_of b k).args e) (Data c)) h in
       let u = among_reached c w.1 in
       both.1 (w.0, u.0, u.1, u.2))
 

@@ -36,7 +36,8 @@ once_append (x ∷ xs) ys p q h = (
     later c m = let w = at_among xs c m in let l : w.0 < length xs = w.1 in among_at (x ∷ xs) (suc w.0) c (omega arith) w.2
 
 -- pieces that tell their numbers
-pub once_pieces : (f : ℕ → List Cell) (key : Cell → ℕ) → ((x : ℕ) (c : Cell) → among (f x) c ≡ true → key c ≡ x) → (xs : List ℕ) → ((k : ℕ) → k < length xs → Once (f (get_or xs k 0))) → Apart xs → Once (flat_map f xs)
+pub once_pieces : (f : ℕ → List Cell) (key : Cell → ℕ) → ((x : ℕ) (c : Cell) → among (f x) c ≡ true → key c ≡ x) → (xs : List ℕ)
+    → ((k : ℕ) → k < length xs → Once (f (get_or xs k 0))) → Apart xs → Once (flat_map f xs)
 once_pieces f key tells [] h apart = tt
 once_pieces f key tells (x ∷ xs) h apart =
     once_append (f x) (flat_map f xs) (h 0 (omega arith))

@@ -216,7 +216,8 @@ module _ (runs_alike : RunsAlike) (b : BoundValue) (ks : List RKernel) (same : m
 abbrev memories_by : Setup KernelFault → Layout KernelFault → List Step → List (List ℤ)
 memories_by s l steps = (flat_from s l steps (first_flat s l)).memories
 
-module _ (runs_alike : RunsAlike) (one_plan : PlansAreOne) (b : BoundValue) (ks : List RKernel) (o u : Owners) (meshes others : List RankMesh) (p q : PlanValue) (h : SameRuns b ks o u meshes others p q) where
+module _ (runs_alike : RunsAlike) (one_plan : PlansAreOne) (b : BoundValue) (ks : List RKernel) (o u : Owners)
+    (meshes others : List RankMesh) (p q : PlanValue) (h : SameRuns b ks o u meshes others p q) where
   read : ReadAlike b meshes others p q
   read = one_plan b meshes others p q h.plans
 

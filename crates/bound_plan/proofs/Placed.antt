@@ -27,7 +27,8 @@ use Rattle.bound_plan.specs.Given.{NumberLaws, ItemLaws}
 use Rattle.bound_plan.proofs.Loops.{loop_is, runs, free_args_are}
 use Rattle.bound_plan.proofs.Locals.{owned, executed, few, own_few}
 
-module _ (laws : NumberLaws) (items : ItemLaws) (b : BoundValue) (o : Owners) (n : Perms) (meshes : List RankMesh) (p : PlanValue) (pl : Planned b o n meshes p) (k : ℕ) (free : kind_of (item_at b k) ≡ Free) where
+module _ (laws : NumberLaws) (items : ItemLaws) (b : BoundValue) (o : Owners) (n : Perms) (meshes : List RankMesh) (p : PlanValue)
+    (pl : Planned b o n meshes p) (k : ℕ) (free : kind_of (item_at b k) ≡ Free) where
   pub site_there : loop_of (item_at b k) < length b.sites
   site_there = items.loops b k pl.fits (ap is_loop free)
 
@@ -46,7 +47,9 @@ module _ (laws : NumberLaws) (items : ItemLaws) (b : BoundValue) (o : Owners) (n
 
     pub count_few : places_in p (loop_at b meshes p k) r ≤ executed_in (sets_of meshes r) (site_of b k).set
     count_few = ⊎_elim
-        (λ (h : scatters (site_of b k).args ≡ true). omega (arith, count_is, cond-true (scatters (site_of b k).args) (executed_in (sets_of meshes r) (site_of b k).set) (own_in (sets_of meshes r) (site_of b k).set) h))
+        (λ (h : scatters (site_of b k).args ≡ true). omega
+            (arith, count_is, cond-true (scatters (site_of b k).args) (executed_in (sets_of meshes r) (site_of b k).set)
+            (own_in (sets_of meshes r) (site_of b k).set) h))
         (λ (h : scatters (site_of b k).args ≡ false).
         omega (
           arith,
@@ -66,7 +69,8 @@ module _ (laws : NumberLaws) (items : ItemLaws) (b : BoundValue) (o : Owners) (n
     all_executed : (x : ℕ) → item_scatters b k ≡ true
         → setup.executes (setup_of b o meshes p) k r (original_at meshes r (site_of b k).set x) ≡ executes b.mesh o (site_of b k).set (original_at meshes r (site_of b k).set x) r
     unfolding owns executes
-    all_executed x h = ap (λ z. (owner_of o (site_of b k).set (original_at meshes r (site_of b k).set x) == r) || (z && imports_execute b.mesh o (site_of b k).set (original_at meshes r (site_of b k).set x) r)) h
+    all_executed x h = ap (λ z. (owner_of o (site_of b k).set (original_at meshes r (site_of b k).set x) == r) ||
+        (z && imports_execute b.mesh o (site_of b k).set (original_at meshes r (site_of b k).set x) r)) h
 
     own_executed : (x : ℕ) → item_scatters b k ≡ false
         → setup.executes (setup_of b o meshes p) k r (original_at meshes r (site_of b k).set x) ≡ owns o (site_of b k).set (original_at meshes r (site_of b k).set x) r
@@ -80,12 +84,16 @@ module _ (laws : NumberLaws) (items : ItemLaws) (b : BoundValue) (o : Owners) (n
         → (x < places_in p (loop_at b meshes p k) r) ↔ (setup.executes (setup_of b o meshes p) k r (original_at meshes r (site_of b k).set x) ≡ true)
     count_executes x l = ⊎_elim
         (λ (h : scatters (site_of b k).args ≡ true).
-        let c : places_in p (loop_at b meshes p k) r ≡ executed_in (sets_of meshes r) (site_of b k).set = count_is ∙ cond-true (scatters (site_of b k).args) (executed_in (sets_of meshes r) (site_of b k).set) (own_in (sets_of meshes r) (site_of b k).set) h in
+        let c : places_in p (loop_at b meshes p k) r ≡ executed_in (sets_of meshes r) (site_of b k).set = count_is
+            ∙ cond-true (scatters (site_of b k).args) (executed_in (sets_of meshes r) (site_of b k).set)
+            (own_in (sets_of meshes r) (site_of b k).set) h in
         let w = executed laws b.mesh o n meshes pl.distributed r lr (site_of b k).set site_fits.set x l in
         let e = all_executed x (scatters_is ∙ h) in
         ((λ m. e ∙ w.0 (omega arith)), (λ m. let z : x < executed_in (sets_of meshes r) (site_of b k).set = w.1 (sym e ∙ m) in omega arith)))
         (λ (h : scatters (site_of b k).args ≡ false).
-        let c : places_in p (loop_at b meshes p k) r ≡ own_in (sets_of meshes r) (site_of b k).set = count_is ∙ cond-false (scatters (site_of b k).args) (executed_in (sets_of meshes r) (site_of b k).set) (own_in (sets_of meshes r) (site_of b k).set) h in
+        let c : places_in p (loop_at b meshes p k) r ≡ own_in (sets_of meshes r) (site_of b k).set = count_is
+            ∙ cond-false (scatters (site_of b k).args) (executed_in (sets_of meshes r) (site_of b k).set)
+            (own_in (sets_of meshes r) (site_of b k).set) h in
         let w = owned laws b.mesh o n meshes pl.distributed r lr (site_of b k).set site_fits.set x l in
         let e = own_executed x (scatters_is ∙ h) in
         ((λ m. e ∙ w.0 (omega arith)), (λ m. let z : x < own_in (sets_of meshes r) (site_of b k).set = w.1 (sym e ∙ m) in omega arith)))

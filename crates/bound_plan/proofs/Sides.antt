@@ -23,7 +23,8 @@ use Rattle.bound_plan.specs.Given.{NumberLaws, ItemLaws}
 use Rattle.bound_plan.proofs.Locals.{stands, is_copy, local_is}
 use Rattle.bound_plan.proofs.Placed.{site_fits, count_executes, place_there}
 
-module _ (laws : NumberLaws) (items : ItemLaws) (b : BoundValue) (o : Owners) (n : Perms) (meshes : List RankMesh) (p : PlanValue) (pl : Planned b o n meshes p) (k : ℕ) (free : kind_of (item_at b k) ≡ Free) (r : ℕ) (lr : r < o.ranks) where
+module _ (laws : NumberLaws) (items : ItemLaws) (b : BoundValue) (o : Owners) (n : Perms) (meshes : List RankMesh) (p : PlanValue)
+    (pl : Planned b o n meshes p) (k : ℕ) (free : kind_of (item_at b k) ≡ Free) (r : ℕ) (lr : r < o.ranks) where
   -- a rank has a copy of what it executes
   pub executed_copy : (e : ℕ) → executes (setup_of b o meshes p) k r e ≡ true → has_copy b.mesh o (site_of b k).set e r ≡ true
   unfolding owns

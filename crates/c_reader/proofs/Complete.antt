@@ -38,7 +38,8 @@ unfolding chain
 chain_stops ks rec zero m e n h = rw h refl
 chain_stops ks rec (suc c) m e n h = rw h refl
 
-pub chain_goes : (ks : List Kind) (rec : Rec) (c m : ℕ) (e : ExprTree) (n : ℕ) (op : BinaryOp) → operator_at ks m n ≡ Some op → chain ks rec (suc c) m e n ≡ (rec (suc (level_of op)) (suc n) >>= λ x. chain ks rec c m (Binary op n e x.0) x.1)
+pub chain_goes : (ks : List Kind) (rec : Rec) (c m : ℕ) (e : ExprTree) (n : ℕ) (op : BinaryOp) → operator_at ks m n ≡ Some op
+    → chain ks rec (suc c) m e n ≡ (rec (suc (level_of op)) (suc n) >>= λ x. chain ks rec c m (Binary op n e x.0) x.1)
 unfolding chain
 chain_goes ks rec c m e n op h = rw h refl
 
@@ -51,7 +52,8 @@ unfolding choice
 choice_stops ks rec zero e n h = rw (h refl) refl
 choice_stops ks rec (suc m) e n h = refl
 
-choice_goes : (ks : List Kind) (rec : Rec) (e : ExprTree) (n : ℕ) → slice_get ks n ≡ Some (kind.Sign sign.Question) → choice ks rec 0 e n ≡ (rec 0 (suc n) >>= λ y. sign_at ks sign.Colon y.1 >>= λ c. rec 0 c >>= λ z. Ok (Choice n e y.0 z.0, z.1))
+choice_goes : (ks : List Kind) (rec : Rec) (e : ExprTree) (n : ℕ) → slice_get ks n ≡ Some (kind.Sign sign.Question)
+    → choice ks rec 0 e n ≡ (rec 0 (suc n) >>= λ y. sign_at ks sign.Colon y.1 >>= λ c. rec 0 c >>= λ z. Ok (Choice n e y.0 z.0, z.1))
 unfolding choice
 choice_goes ks rec e n h = rw h refl
 
@@ -117,44 +119,61 @@ number_front : (ks : List Kind) (rec : Rec) (n : ℕ) (v : NumberLiteral) (e' : 
 unfolding front
 number_front ks rec n v e' h a e = rw (h, ← a, ← e) (rw a refl)
 
-name_front : (ks : List Kind) (rec : Rec) (n : ℕ) (x : Ident) (e' : ℕ) → slice_get ks n ≡ Some (kind.Name x.name) → x.at ≡ n → suc n ≡ e' → sign_is sign.LeftBracket (slice_get ks e') ≡ false → front ks rec n ≡ Ok (Name x, e')
+name_front : (ks : List Kind) (rec : Rec) (n : ℕ) (x : Ident) (e' : ℕ) → slice_get ks n ≡ Some (kind.Name x.name) → x.at ≡ n → suc n ≡ e'
+    → sign_is sign.LeftBracket (slice_get ks e') ≡ false → front ks rec n ≡ Ok (Name x, e')
 unfolding front name_at
 name_front ks rec n x e' h a e b =
     let b' : sign_is sign.LeftBracket (slice_get ks (suc n)) ≡ false = rw e b in
     rw (h, b') (let f : ℕ → ℕ → Step = λ i j. Ok (Name (record { name = x.name; at = i }), j) in ap (λ i. f i (suc n)) (sym a) ∙ ap (f x.at) e)
 
-index_front : (ks : List Kind) (rec : Rec) (n : ℕ) (x : Ident) (i : ExprTree) (p : Option ℕ) (j e' : ℕ) → slice_get ks n ≡ Some (kind.Name x.name) → x.at ≡ n → slice_get ks (suc n) ≡ Some (kind.Sign sign.LeftBracket) → rec 0 (suc (suc n)) ≡ after p (Ok (i, j)) → slice_get ks j ≡ Some (kind.Sign sign.RightBracket) → suc j ≡ e' → front ks rec n ≡ after p (Ok (Index x i, e'))
+index_front : (ks : List Kind) (rec : Rec) (n : ℕ) (x : Ident) (i : ExprTree) (p : Option ℕ) (j e' : ℕ)
+    → slice_get ks n ≡ Some (kind.Name x.name) → x.at ≡ n → slice_get ks (suc n) ≡ Some (kind.Sign sign.LeftBracket)
+    → rec 0 (suc (suc n)) ≡ after p (Ok (i, j)) → slice_get ks j ≡ Some (kind.Sign sign.RightBracket) → suc j ≡ e'
+    → front ks rec n ≡ after p (Ok (Index x i, e'))
 unfolding front name_at
 index_front ks rec n x i None j e' h a b r c e =
     rw (h, b, r, sign_at_is ks sign.RightBracket j c) (let f : ℕ → ℕ → Step = λ at to. Ok (Index (record { name = x.name; at = at }) i, to) in ap (λ at. f at (suc j)) (sym a) ∙ ap (f x.at) e)
 index_front ks rec n x i (Some p) j e' h a b r c e = rw (h, b, r) refl
 
-deref_front : (ks : List Kind) (rec : Rec) (n at : ℕ) (x : Ident) (e' : ℕ) → slice_get ks n ≡ Some (kind.Sign sign.Star) → at ≡ n → slice_get ks (suc n) ≡ Some (kind.Name x.name) → x.at ≡ suc n → suc (suc n) ≡ e' → front ks rec n ≡ Ok (Deref at x, e')
+deref_front : (ks : List Kind) (rec : Rec) (n at : ℕ) (x : Ident) (e' : ℕ) → slice_get ks n ≡ Some (kind.Sign sign.Star) → at ≡ n
+    → slice_get ks (suc n) ≡ Some (kind.Name x.name) → x.at ≡ suc n → suc (suc n) ≡ e' → front ks rec n ≡ Ok (Deref at x, e')
 unfolding front
 deref_front ks rec n at x e' h a b y e =
-    rw (h, b) (let f : ℕ → ℕ → ℕ → Step = λ i j to. Ok (Deref i (record { name = x.name; at = j }), to) in ap (λ i. f i (suc n) (suc (suc n))) (sym a) ∙ ap (λ j. f at j (suc (suc n))) (sym y) ∙ ap (f at x.at) e)
+    rw (h, b) (let f : ℕ → ℕ → ℕ → Step = λ i j to. Ok (Deref i (record { name = x.name; at = j }), to) in
+        ap (λ i. f i (suc n) (suc (suc n))) (sym a) ∙ ap (λ j. f at j (suc (suc n))) (sym y) ∙ ap (f at x.at) e)
 
-unary_front : (ks : List Kind) (rec : Rec) (n : ℕ) (op : UnaryOp) (at : ℕ) (i : ExprTree) (p : Option ℕ) (e' : ℕ) → slice_get ks n ≡ Some (kind.Sign (unary_sign_of op)) → at ≡ n → rec 11 (suc n) ≡ after p (Ok (i, e')) → front ks rec n ≡ after p (Ok (Unary op at i, e'))
+unary_front : (ks : List Kind) (rec : Rec) (n : ℕ) (op : UnaryOp) (at : ℕ) (i : ExprTree) (p : Option ℕ) (e' : ℕ)
+    → slice_get ks n ≡ Some (kind.Sign (unary_sign_of op)) → at ≡ n → rec 11 (suc n) ≡ after p (Ok (i, e'))
+    → front ks rec n ≡ after p (Ok (Unary op at i, e'))
 unfolding front
 unary_front ks rec n op at i None e' h a r = rw (h, lead_of-unary_sign_of op, r) (ap (λ x. Ok (Unary op x i, e')) (sym a))
 unary_front ks rec n op at i (Some p) e' h a r = rw (h, lead_of-unary_sign_of op, r) refl
 
-paren_front : (ks : List Kind) (rec : Rec) (n at : ℕ) (i : ExprTree) (p : Option ℕ) (j e' : ℕ) → slice_get ks n ≡ Some (kind.Sign sign.LeftParen) → at ≡ n → rec 0 (suc n) ≡ after p (Ok (i, j)) → slice_get ks j ≡ Some (kind.Sign sign.RightParen) → suc j ≡ e' → front ks rec n ≡ after p (Ok (Paren at i, e'))
+paren_front : (ks : List Kind) (rec : Rec) (n at : ℕ) (i : ExprTree) (p : Option ℕ) (j e' : ℕ)
+    → slice_get ks n ≡ Some (kind.Sign sign.LeftParen) → at ≡ n → rec 0 (suc n) ≡ after p (Ok (i, j))
+    → slice_get ks j ≡ Some (kind.Sign sign.RightParen) → suc j ≡ e' → front ks rec n ≡ after p (Ok (Paren at i, e'))
 unfolding front
 paren_front ks rec n at i None j e' h a r c e =
     rw (h, r, sign_at_is ks sign.RightParen j c) (ap (λ x. Ok (Paren x i, suc j)) (sym a) ∙ ap (λ x. Ok (Paren at i, x)) e)
 paren_front ks rec n at i (Some p) j e' h a r c e = rw (h, r) refl
 
-absolute_front : (ks : List Kind) (rec : Rec) (n at : ℕ) (i : ExprTree) (p : Option ℕ) (j e' : ℕ) → slice_get ks n ≡ Some (kind.Word word.Abs) → at ≡ n → slice_get ks (suc n) ≡ Some (kind.Sign sign.LeftParen) → rec 0 (suc (suc n)) ≡ after p (Ok (i, j)) → slice_get ks j ≡ Some (kind.Sign sign.RightParen) → suc j ≡ e' → front ks rec n ≡ after p (Ok (Absolute at i, e'))
+absolute_front : (ks : List Kind) (rec : Rec) (n at : ℕ) (i : ExprTree) (p : Option ℕ) (j e' : ℕ)
+    → slice_get ks n ≡ Some (kind.Word word.Abs) → at ≡ n → slice_get ks (suc n) ≡ Some (kind.Sign sign.LeftParen)
+    → rec 0 (suc (suc n)) ≡ after p (Ok (i, j)) → slice_get ks j ≡ Some (kind.Sign sign.RightParen) → suc j ≡ e'
+    → front ks rec n ≡ after p (Ok (Absolute at i, e'))
 unfolding front
 absolute_front ks rec n at i None j e' h a o r c e =
     rw (h, sign_at_is ks sign.LeftParen (suc n) o, r, sign_at_is ks sign.RightParen j c) (ap (λ x. Ok (Absolute x i, suc j)) (sym a) ∙ ap (λ x. Ok (Absolute at i, x)) e)
 absolute_front ks rec n at i (Some p) j e' h a o r c e = rw (h, sign_at_is ks sign.LeftParen (suc n) o, r) refl
 
-extremum_front : (ks : List Kind) (rec : Rec) (n : ℕ) (w : MinMax) (at : ℕ) (x y : ExprTree) (p q : Option ℕ) (i j e' : ℕ) → slice_get ks n ≡ Some (kind.Word (min_max_word_of w)) → at ≡ n → slice_get ks (suc n) ≡ Some (kind.Sign sign.LeftParen) → rec 0 (suc (suc n)) ≡ after p (Ok (x, i)) → slice_get ks i ≡ Some (kind.Sign sign.Comma) → rec 0 (suc i) ≡ after q (Ok (y, j)) → slice_get ks j ≡ Some (kind.Sign sign.RightParen) → suc j ≡ e' → front ks rec n ≡ after (or_else p q) (Ok (Extremum w at x y, e'))
+extremum_front : (ks : List Kind) (rec : Rec) (n : ℕ) (w : MinMax) (at : ℕ) (x y : ExprTree) (p q : Option ℕ) (i j e' : ℕ)
+    → slice_get ks n ≡ Some (kind.Word (min_max_word_of w)) → at ≡ n → slice_get ks (suc n) ≡ Some (kind.Sign sign.LeftParen)
+    → rec 0 (suc (suc n)) ≡ after p (Ok (x, i)) → slice_get ks i ≡ Some (kind.Sign sign.Comma) → rec 0 (suc i) ≡ after q (Ok (y, j))
+    → slice_get ks j ≡ Some (kind.Sign sign.RightParen) → suc j ≡ e' → front ks rec n ≡ after (or_else p q) (Ok (Extremum w at x y, e'))
 unfolding front
 extremum_front ks rec n w at x y None None i j e' h a o r c s d e =
-    rw (h, word_lead_of-extreme w, sign_at_is ks sign.LeftParen (suc n) o, r, sign_at_is ks sign.Comma i c, s, sign_at_is ks sign.RightParen j d) (ap (λ z. Ok (Extremum w z x y, suc j)) (sym a) ∙ ap (λ z. Ok (Extremum w at x y, z)) e)
+    rw (h, word_lead_of-extreme w, sign_at_is ks sign.LeftParen (suc n) o, r, sign_at_is ks sign.Comma i c, s,
+        sign_at_is ks sign.RightParen j d) (ap (λ z. Ok (Extremum w z x y, suc j)) (sym a) ∙ ap (λ z. Ok (Extremum w at x y, z)) e)
 extremum_front ks rec n w at x y None (Some q) i j e' h a o r c s d e =
     rw (h, word_lead_of-extreme w, sign_at_is ks sign.LeftParen (suc n) o, r, sign_at_is ks sign.Comma i c, s) refl
 extremum_front ks rec n w at x y (Some p) q i j e' h a o r c s d e =
@@ -200,7 +219,9 @@ ends_left ks a n op h l = record {
 }
 
 -- One more operator of a chain: the right operand has been read, or a token too deep stands in it.
-chain_step : (ks : List Kind) (d m k n1 : ℕ) (op : BinaryOp) (a b : ExprTree) (p : Option ℕ) (e' : ℕ) → chain_of a < 128 → operator_at ks m n1 ≡ Some op → read ks d (suc (level_of op)) (suc n1) ≡ after p (Ok (b, e')) → rest ks (suc d) m a n1 ≡ after p (rest ks (suc d) m (Binary op n1 a b) e')
+chain_step : (ks : List Kind) (d m k n1 : ℕ) (op : BinaryOp) (a b : ExprTree) (p : Option ℕ) (e' : ℕ) → chain_of a < 128
+    → operator_at ks m n1 ≡ Some op → read ks d (suc (level_of op)) (suc n1) ≡ after p (Ok (b, e'))
+    → rest ks (suc d) m a n1 ≡ after p (rest ks (suc d) m (Binary op n1 a b) e')
 unfolding rest
 chain_step ks d m k n1 op a b None e' c o r =
     let left : 128 - chain_of a ≡ suc (128 - suc (chain_of a)) = omega arith in
@@ -217,7 +238,9 @@ chain_over ks d m n1 op a c o =
     rw (none, chain_full ks (read ks d) m a n1 op o) refl
 
 -- a choice behind its condition
-choice_step : (ks : List Kind) (d n1 : ℕ) (c y z : ExprTree) (p q : Option ℕ) (j e' : ℕ) → slice_get ks n1 ≡ Some (kind.Sign sign.Question) → read ks d 0 (suc n1) ≡ after p (Ok (y, j)) → slice_get ks j ≡ Some (kind.Sign sign.Colon) → read ks d 0 (suc j) ≡ after q (Ok (z, e')) → rest ks (suc d) 0 c n1 ≡ after (or_else p q) (Ok (Choice n1 c y z, e'))
+choice_step : (ks : List Kind) (d n1 : ℕ) (c y z : ExprTree) (p q : Option ℕ) (j e' : ℕ) → slice_get ks n1 ≡ Some (kind.Sign sign.Question)
+    → read ks d 0 (suc n1) ≡ after p (Ok (y, j)) → slice_get ks j ≡ Some (kind.Sign sign.Colon) → read ks d 0 (suc j) ≡ after q (Ok (z, e'))
+    → rest ks (suc d) 0 c n1 ≡ after (or_else p q) (Ok (Choice n1 c y z, e'))
 unfolding rest
 choice_step ks d n1 c y z None None j e' h r o s =
     rw (chain_stops ks (read ks d) (128 - chain_of c) 0 c n1 (operator_none ks 0 n1 sign.Question refl h), choice_goes ks (read ks d) c n1 h, r, sign_at_is ks sign.Colon j o, s) refl
@@ -226,7 +249,10 @@ choice_step ks d n1 c y z None (Some q) j e' h r o s =
 choice_step ks d n1 c y z (Some p) q j e' h r o s =
     rw (chain_stops ks (read ks d) (128 - chain_of c) 0 c n1 (operator_none ks 0 n1 sign.Question refl h), choice_goes ks (read ks d) c n1 h, r) refl
 
-binary_case : (ks : List Kind) (d m n k j e' : ℕ) (op : BinaryOp) (at : ℕ) (a b : ExprTree) → k + suc d ≡ 65 → Spans ks n (expr k a) j → at ≡ j → operator_at ks m j ≡ Some op → IsRead ks (suc d) m n k a j → read ks d (suc (level_of op)) (suc j) ≡ after (first_deep (suc j) (expr (suc k) b)) (Ok (b, e')) → IsRead ks (suc d) m n k (Binary op at a b) e'
+binary_case : (ks : List Kind) (d m n k j e' : ℕ) (op : BinaryOp) (at : ℕ) (a b : ExprTree) → k + suc d ≡ 65 → Spans ks n (expr k a) j
+    → at ≡ j → operator_at ks m j ≡ Some op → IsRead ks (suc d) m n k a j
+    → read ks d (suc (level_of op)) (suc j) ≡ after (first_deep (suc j) (expr (suc k) b)) (Ok (b, e'))
+    → IsRead ks (suc d) m n k (Binary op at a b) e'
 binary_case ks d m n k j e' op at a b l s i here left right = by_length (le_or_lt 128 (chain_of a))
   where
     by_length : (128 ≤ chain_of a) ⊎ (chain_of a < 128) → IsRead ks (suc d) m n k (Binary op at a b) e'
@@ -255,7 +281,9 @@ complete ks (Index x e) (suc d) m n k e' l ml g s q =
     let c = r.2.0 in
     let inner = complete ks e d 0 (suc (suc n)) (suc k) r.0 (omega (arith, l)) zero-le g r.1 (ends_closed ks e r.0 sign.RightBracket right_bracket c) in
     let whole = ended ks d 0 (suc (suc n)) (suc k) e r.0 inner (rest_closed ks d 0 e r.0 sign.RightBracket right_bracket c) in
-    rw (fits, deep_closed ks (suc (suc n)) (expr (suc k) e) (sign_mark k sign.RightBracket) r.0 r.1 fits) (read_front ks d m n e' (first_deep (suc (suc n)) (expr (suc k) e)) (Index x e) refl (index_front ks (read ks d) n x e (first_deep (suc (suc n)) (expr (suc k) e)) r.0 e' s.0 s.1 s.2.0 whole c r.2.2))
+    rw (fits, deep_closed ks (suc (suc n)) (expr (suc k) e) (sign_mark k sign.RightBracket) r.0 r.1 fits)
+        (read_front ks d m n e' (first_deep (suc (suc n)) (expr (suc k) e)) (Index x e) refl
+        (index_front ks (read ks d) n x e (first_deep (suc (suc n)) (expr (suc k) e)) r.0 e' s.0 s.1 s.2.0 whole c r.2.2))
 complete ks (Deref at x) (suc d) m n k e' l ml g s q =
     rw (level_fits k d l) (read_front ks d m n e' None (Deref at x) refl (deref_front ks (read ks d) n at x e' s.0 s.1 s.2.0 s.2.1 s.2.2))
 complete ks (Unary op at e) (suc d) m n k e' l ml g s q =
@@ -268,7 +296,8 @@ complete ks (Unary op at e) (suc d) m n k e' l ml g s q =
     } in
     let inner = complete ks e d 11 (suc n) (suc k) e' (omega (arith, l)) strong g.1 s.2 behind in
     let whole = ended ks d 11 (suc n) (suc k) e e' inner (rest_stops ks d 11 e e' beyond (λ z. absurd (omega arith))) in
-    rw (level_fits k d l) (read_front ks d m n e' (first_deep (suc n) (expr (suc k) e)) (Unary op at e) refl (unary_front ks (read ks d) n op at e (first_deep (suc n) (expr (suc k) e)) e' s.0 s.1 whole))
+    rw (level_fits k d l) (read_front ks d m n e' (first_deep (suc n) (expr (suc k) e)) (Unary op at e) refl
+        (unary_front ks (read ks d) n op at e (first_deep (suc n) (expr (suc k) e)) e' s.0 s.1 whole))
 complete ks (Binary op at a b) (suc d) m n k e' l ml g s q =
     let mark = named_sign (operator_level k (suc (chain_of a))) (sign_of op) at in
     let r = spans_split ks n (expr k a) (mark ∷ expr (suc k) b) e' s in
@@ -307,7 +336,9 @@ complete ks (Choice at c y z) (suc d) m n k e' l ml g s q =
     let second_whole = ended ks d 0 (suc t.0) (suc k) z e' second (rest_stops ks d 0 z e' none (λ _. q.question refl)) in
     let step = choice_step ks d r.0 c y z (first_deep (suc r.0) (expr (suc k) y)) (first_deep (suc t.0) (expr (suc k) z)) t.0 e' r.2.0 first_whole t.2.0 second_whole in
     let deep : first_deep n (expr k (Choice at c y z)) ≡ or_else (first_deep n (expr k c)) (or_else (first_deep (suc r.0) (expr (suc k) y)) (first_deep (suc t.0) (expr (suc k) z))) =
-    deep_between ks n (expr k c) (named_sign k sign.Question at) tail r.0 r.1 fits ∙ ap (or_else (first_deep n (expr k c))) (deep_between ks (suc r.0) (expr (suc k) y) (sign_mark k sign.Colon) (expr (suc k) z) t.0 t.1 fits) in
+    deep_between ks n (expr k c) (named_sign k sign.Question at) tail r.0 r.1 fits
+        ∙ ap (or_else (first_deep n (expr k c)))
+        (deep_between ks (suc r.0) (expr (suc k) y) (sign_mark k sign.Colon) (expr (suc k) z) t.0 t.1 fits) in
     let is : Choice r.0 c y z ≡ Choice at c y z = ap (λ i. Choice i c y z) (sym r.2.1) in
     let end = rest_stops ks (suc d) 0 (Choice at c y z) e' none (λ _. q.question refl) in
     rw (lowest, deep, end, test, step, is) (sym (after_or_else (first_deep n (expr k c)) _ _))
@@ -317,7 +348,9 @@ complete ks (Paren at e) (suc d) m n k e' l ml g s q =
     let c = r.2.0 in
     let inner = complete ks e d 0 (suc n) (suc k) r.0 (omega (arith, l)) zero-le g r.1 (ends_closed ks e r.0 sign.RightParen right_paren c) in
     let whole = ended ks d 0 (suc n) (suc k) e r.0 inner (rest_closed ks d 0 e r.0 sign.RightParen right_paren c) in
-    rw (fits, deep_closed ks (suc n) (expr (suc k) e) (sign_mark k sign.RightParen) r.0 r.1 fits) (read_front ks d m n e' (first_deep (suc n) (expr (suc k) e)) (Paren at e) refl (paren_front ks (read ks d) n at e (first_deep (suc n) (expr (suc k) e)) r.0 e' s.0 s.1 whole c r.2.2))
+    rw (fits, deep_closed ks (suc n) (expr (suc k) e) (sign_mark k sign.RightParen) r.0 r.1 fits)
+        (read_front ks d m n e' (first_deep (suc n) (expr (suc k) e)) (Paren at e) refl
+        (paren_front ks (read ks d) n at e (first_deep (suc n) (expr (suc k) e)) r.0 e' s.0 s.1 whole c r.2.2))
 complete ks (Extremum w at a b) (suc d) m n k e' l ml g s q =
     let fits = level_fits k d l in
     let from = suc (suc n) in
@@ -328,7 +361,11 @@ complete ks (Extremum w at a b) (suc d) m n k e' l ml g s q =
     let first_whole = ended ks d 0 from (suc k) a r.0 first (rest_closed ks d 0 a r.0 sign.Comma comma r.2.0) in
     let second = complete ks b d 0 (suc r.0) (suc k) t.0 (omega (arith, l)) zero-le g.1 t.1 (ends_closed ks b t.0 sign.RightParen right_paren t.2.0) in
     let second_whole = ended ks d 0 (suc r.0) (suc k) b t.0 second (rest_closed ks d 0 b t.0 sign.RightParen right_paren t.2.0) in
-    rw (fits, deep_between ks from (expr (suc k) a) (sign_mark k sign.Comma) tail r.0 r.1 fits, deep_closed ks (suc r.0) (expr (suc k) b) (sign_mark k sign.RightParen) t.0 t.1 fits) (read_front ks d m n e' (or_else (first_deep from (expr (suc k) a)) (first_deep (suc r.0) (expr (suc k) b))) (Extremum w at a b) refl (extremum_front ks (read ks d) n w at a b (first_deep from (expr (suc k) a)) (first_deep (suc r.0) (expr (suc k) b)) r.0 t.0 e' s.0 s.1 s.2.0 first_whole r.2.0 second_whole t.2.0 t.2.2))
+    rw (fits, deep_between ks from (expr (suc k) a) (sign_mark k sign.Comma) tail r.0 r.1 fits,
+        deep_closed ks (suc r.0) (expr (suc k) b) (sign_mark k sign.RightParen) t.0 t.1 fits)
+        (read_front ks d m n e' (or_else (first_deep from (expr (suc k) a)) (first_deep (suc r.0) (expr (suc k) b))) (Extremum w at a b)
+        refl (extremum_front ks (read ks d) n w at a b (first_deep from (expr (suc k) a)) (first_deep (suc r.0) (expr (suc k) b)) r.0 t.0 e'
+        s.0 s.1 s.2.0 first_whole r.2.0 second_whole t.2.0 t.2.2))
 complete ks (Absolute at e) (suc d) m n k e' l ml g s q =
     let fits = level_fits k d l in
     let from = suc (suc n) in
@@ -336,4 +373,6 @@ complete ks (Absolute at e) (suc d) m n k e' l ml g s q =
     let c = r.2.0 in
     let inner = complete ks e d 0 from (suc k) r.0 (omega (arith, l)) zero-le g r.1 (ends_closed ks e r.0 sign.RightParen right_paren c) in
     let whole = ended ks d 0 from (suc k) e r.0 inner (rest_closed ks d 0 e r.0 sign.RightParen right_paren c) in
-    rw (fits, deep_closed ks from (expr (suc k) e) (sign_mark k sign.RightParen) r.0 r.1 fits) (read_front ks d m n e' (first_deep from (expr (suc k) e)) (Absolute at e) refl (absolute_front ks (read ks d) n at e (first_deep from (expr (suc k) e)) r.0 e' s.0 s.1 s.2.0 whole c r.2.2))
+    rw (fits, deep_closed ks from (expr (suc k) e) (sign_mark k sign.RightParen) r.0 r.1 fits)
+        (read_front ks d m n e' (first_deep from (expr (suc k) e)) (Absolute at e) refl
+        (absolute_front ks (read ks d) n at e (first_deep from (expr (suc k) e)) r.0 e' s.0 s.1 s.2.0 whole c r.2.2))

@@ -45,16 +45,22 @@ sep_bracket : (ks : List Kind) (n : ℕ) → SepAt ks n → sign_is sg.LeftBrack
 sep_bracket ks n (inl h) = rw h refl
 sep_bracket ks n (inr h) = rw h refl
 
-declr_plain : (ks : List Kind) (d : ℕ) (x : Ident) (n : ℕ) → ident ks n ≡ Ok (x, suc n) → sign_is sg.Assign (slice_get ks (suc n)) ≡ false → sign_is sg.LeftBracket (slice_get ks (suc n)) ≡ false → declr_at ks d false n ≡ Ok (Plain x, suc n)
+declr_plain : (ks : List Kind) (d : ℕ) (x : Ident) (n : ℕ) → ident ks n ≡ Ok (x, suc n) → sign_is sg.Assign (slice_get ks (suc n)) ≡ false
+    → sign_is sg.LeftBracket (slice_get ks (suc n)) ≡ false → declr_at ks d false n ≡ Ok (Plain x, suc n)
 unfolding declr_at
 declr_plain ks d x n h a b = rw (h, a, b) refl
 
-declr_init : (ks : List Kind) (d : ℕ) (c : Bool) (x : Ident) (n e : ℕ) (v : ExprTree) (o : Option ℕ) → ident ks n ≡ Ok (x, suc n) → slice_get ks (suc n) ≡ Some (kind.Sign sg.Assign) → read ks d 0 (suc (suc n)) ≡ after o (Ok (v, e)) → declr_at ks d c n ≡ after o (Ok (Init x v, e))
+declr_init : (ks : List Kind) (d : ℕ) (c : Bool) (x : Ident) (n e : ℕ) (v : ExprTree) (o : Option ℕ) → ident ks n ≡ Ok (x, suc n)
+    → slice_get ks (suc n) ≡ Some (kind.Sign sg.Assign) → read ks d 0 (suc (suc n)) ≡ after o (Ok (v, e))
+    → declr_at ks d c n ≡ after o (Ok (Init x v, e))
 unfolding declr_at
 declr_init ks d c x n e v None h a r = rw (h, a, r) refl
 declr_init ks d c x n e v (Some p) h a r = rw (h, a, r) refl
 
-declr_array : (ks : List Kind) (d : ℕ) (x : Ident) (n : ℕ) (v : NumberLiteral) → ident ks n ≡ Ok (x, suc n) → slice_get ks (suc n) ≡ Some (kind.Sign sg.LeftBracket) → number ks (suc (suc n)) ≡ Ok (v, suc (suc (suc n))) → sign_at ks sg.RightBracket (suc (suc (suc n))) ≡ Ok (suc (suc (suc (suc n)))) → declr_at ks d false n ≡ Ok (Array x v, suc (suc (suc (suc n))))
+declr_array : (ks : List Kind) (d : ℕ) (x : Ident) (n : ℕ) (v : NumberLiteral) → ident ks n ≡ Ok (x, suc n)
+    → slice_get ks (suc n) ≡ Some (kind.Sign sg.LeftBracket) → number ks (suc (suc n)) ≡ Ok (v, suc (suc (suc n)))
+    → sign_at ks sg.RightBracket (suc (suc (suc n))) ≡ Ok (suc (suc (suc (suc n))))
+    → declr_at ks d false n ≡ Ok (Array x v, suc (suc (suc (suc n))))
 unfolding declr_at
 declr_array ks d x n v h a r b = rw (h, a, r, b) refl
 
@@ -72,29 +78,41 @@ module _ (ks : List Kind) (f k d : ℕ) (room : suc k + d ≡ 65) (before : k �
       by_const : (c : Bool) → IsDeclr c (Plain x) → declr_at ks d c n ≡ after (first_deep n (declr k (Plain x))) (Ok (Plain x, e))
       by_const true o = absurd o
       by_const false o =
-          declr_plain ks d x n (ident_is ks x n s.0 s.1) (sep_assign ks (suc n) (subst (SepAt ks) (sym s.2) h)) (sep_bracket ks (suc n) (subst (SepAt ks) (sym s.2) h)) ∙ ap (λ (z : ℕ). Ok (Plain x, z)) s.2 ∙ ap (λ z. after z (Ok (Plain x, e))) (sym (mark_shallow n (ident_mark k x) fits))
+          declr_plain ks d x n (ident_is ks x n s.0 s.1) (sep_assign ks (suc n) (subst (SepAt ks) (sym s.2) h))
+              (sep_bracket ks (suc n) (subst (SepAt ks) (sym s.2) h)) ∙ ap (λ (z : ℕ). Ok (Plain x, z)) s.2
+              ∙ ap (λ z. after z (Ok (Plain x, e))) (sym (mark_shallow n (ident_mark k x) fits))
   declr_complete (Init x v) n e o s h =
       let inner = (expr_exact ks k k d room (omega arith)).complete v (suc (suc n)) e o s.2.2 (sep_closed ks e h) in
-      declr_init ks d c x n e v (first_deep (suc (suc n)) (expr (suc k) v)) (ident_is ks x n s.0 s.1) s.2.0 inner ∙ ap (λ z. after z (Ok (Init x v, e))) (sym (deep_over n (ident_mark k x) (sign_mark k sg.Assign ∷ expr (suc k) v) fits ∙ deep_over (suc n) (sign_mark k sg.Assign) (expr (suc k) v) fits))
+      declr_init ks d c x n e v (first_deep (suc (suc n)) (expr (suc k) v)) (ident_is ks x n s.0 s.1) s.2.0 inner
+          ∙ ap (λ z. after z (Ok (Init x v, e)))
+          (sym (deep_over n (ident_mark k x) (sign_mark k sg.Assign ∷ expr (suc k) v) fits
+          ∙ deep_over (suc n) (sign_mark k sg.Assign) (expr (suc k) v) fits))
   declr_complete (Array x m) n e o s h = by_const c o
     where
       by_const : (c : Bool) → IsDeclr c (Array x m) → declr_at ks d c n ≡ after (first_deep n (declr k (Array x m))) (Ok (Array x m, e))
       by_const true o = absurd o
       by_const false o =
-          declr_array ks d x n m (ident_is ks x n s.0 s.1) s.2.0 (number_is ks m (suc (suc n)) s.2.2.0 s.2.2.1) (sign_at_is ks sg.RightBracket (suc (suc (suc n))) s.2.2.2.0) ∙ ap (λ (z : ℕ). Ok (Array x m, z)) s.2.2.2.2 ∙ ap (λ z. after z (Ok (Array x m, e))) (sym (array_deep x m n))
+          declr_array ks d x n m (ident_is ks x n s.0 s.1) s.2.0 (number_is ks m (suc (suc n)) s.2.2.0 s.2.2.1)
+              (sign_at_is ks sg.RightBracket (suc (suc (suc n))) s.2.2.2.0) ∙ ap (λ (z : ℕ). Ok (Array x m, z)) s.2.2.2.2
+              ∙ ap (λ z. after z (Ok (Array x m, e))) (sym (array_deep x m n))
 
-  unset_sound : (c : Bool) (x : Ident) (n j : ℕ) (y : DeclrTree × ℕ) → slice_get ks n ≡ Some (kind.Name x.name) → x.at ≡ n → suc n ≡ j → unset ks c x j ≡ Ok y → Found ks (IsDeclr c) (declr k) Free n y.0 y.1
+  unset_sound : (c : Bool) (x : Ident) (n j : ℕ) (y : DeclrTree × ℕ) → slice_get ks n ≡ Some (kind.Name x.name) → x.at ≡ n → suc n ≡ j
+      → unset ks c x j ≡ Ok y → Found ks (IsDeclr c) (declr k) Free n y.0 y.1
   unset_sound true x n j y s a i h = cc
   unset_sound false x n j y s a i h = by_test (sign_is sg.LeftBracket (slice_get ks j)) refl h
     where
-      by_test : (t : Bool) → sign_is sg.LeftBracket (slice_get ks j) ≡ t → cond t (number ks (suc j) >>= λ v. sign_at ks sg.RightBracket v.1 >>= λ e. Ok (Array x v.0, e)) (Ok (Plain x, j)) ≡ Ok y → Found ks (IsDeclr false) (declr k) Free n y.0 y.1
+      by_test : (t : Bool) → sign_is sg.LeftBracket (slice_get ks j) ≡ t
+          → cond t (number ks (suc j) >>= λ v. sign_at ks sg.RightBracket v.1 >>= λ e. Ok (Array x v.0, e)) (Ok (Plain x, j)) ≡ Ok y
+          → Found ks (IsDeclr false) (declr k) Free n y.0 y.1
       by_test true t h =
           let v = bind_ok (number ks (suc j)) _ y h in
           let b = bind_ok (sign_at ks sg.RightBracket v.0.1) _ y v.2 in
           let q = number_ok ks (suc j) v.0 v.1 in
           let g = sign_at_ok ks sg.RightBracket v.0.1 b.0 b.1 in
           let bracket : slice_get ks (suc n) ≡ Some (kind.Sign sg.LeftBracket) = ap (slice_get ks) i ∙ sign_found sg.LeftBracket (slice_get ks j) t in
-          let rest : Spans ks (suc (suc n)) (figure k v.0.0 ∷ sign_mark k sg.RightBracket ∷ []) b.0 = subst (λ z. Spans ks (suc z) (figure k v.0.0 ∷ sign_mark k sg.RightBracket ∷ []) b.0) (sym i) (q.0, q.1, subst (λ z. Spans ks z (sign_mark k sg.RightBracket ∷ []) b.0) (sym q.2) (g.0, tt, sym g.1)) in
+          let rest : Spans ks (suc (suc n)) (figure k v.0.0 ∷ sign_mark k sg.RightBracket ∷ []) b.0 =
+              subst (λ z. Spans ks (suc z) (figure k v.0.0 ∷ sign_mark k sg.RightBracket ∷ []) b.0) (sym i)
+              (q.0, q.1, subst (λ z. Spans ks z (sign_mark k sg.RightBracket ∷ []) b.0) (sym q.2) (g.0, tt, sym g.1)) in
           let made_ : Found ks (IsDeclr false) (declr k) Free n (Array x v.0.0) b.0 = record {
             valid = tt;
             spans = (s, a, (bracket, tt, rest));
@@ -118,7 +136,9 @@ module _ (ks : List Kind) (f k d : ℕ) (room : suc k + d ≡ 65) (before : k �
       let q = ident_ok ks n x.0 x.1 in
       by_test x.0 q.0 q.1 q.2 (sign_is sg.Assign (slice_get ks x.0.1)) refl x.2
     where
-      by_test : (x : Ident × ℕ) → slice_get ks n ≡ Some (kind.Name x.0.name) → x.0.at ≡ n → suc n ≡ x.1 → (t : Bool) → sign_is sg.Assign (slice_get ks x.1) ≡ t → cond t (read ks d 0 (suc x.1) >>= λ v. Ok (Init x.0 v.0, v.1)) (unset ks c x.0 x.1) ≡ Ok y → Found ks (IsDeclr c) (declr k) Free n y.0 y.1
+      by_test : (x : Ident × ℕ) → slice_get ks n ≡ Some (kind.Name x.0.name) → x.0.at ≡ n → suc n ≡ x.1 → (t : Bool)
+          → sign_is sg.Assign (slice_get ks x.1) ≡ t → cond t (read ks d 0 (suc x.1) >>= λ v. Ok (Init x.0 v.0, v.1)) (unset ks c x.0 x.1) ≡
+          Ok y → Found ks (IsDeclr c) (declr k) Free n y.0 y.1
       by_test x s a i true t h =
           let v = bind_ok (read ks d 0 (suc x.1)) _ y h in
           let r = (expr_exact ks k k d room (omega arith)).sound (suc x.1) v.0 v.1 in
@@ -139,7 +159,9 @@ module _ (ks : List Kind) (f k d : ℕ) (room : suc k + d ≡ 65) (before : k �
   unset_near true x j q h = cc
   unset_near false x j q h = by_test (sign_is sg.LeftBracket (slice_get ks j)) h
     where
-      by_test : (t : Bool) → ◌≡◌ {A = Result (DeclrTree × ℕ) Fault} (cond t (number ks (suc j) >>= λ v. sign_at ks sg.RightBracket v.1 >>= λ e. Ok (Array x v.0, e)) (Ok (Plain x, j))) (Err (TooDeep q)) → 64 ≤ q
+      by_test : (t : Bool) → ◌≡◌ {A = Result (DeclrTree × ℕ) Fault}
+          (cond t (number ks (suc j) >>= λ v. sign_at ks sg.RightBracket v.1 >>= λ e. Ok (Array x v.0, e)) (Ok (Plain x, j)))
+          (Err (TooDeep q)) → 64 ≤ q
       by_test true h =
           far_bind (number ks (suc j)) _ q h (λ g. absurd (number_near ks (suc j) q g)) (λ v r g. far_bind (sign_at ks sg.RightBracket v.1) _ q g (sign_far ks sg.RightBracket v.1 q) (λ e r g. cc))
       by_test false h = cc
@@ -149,7 +171,9 @@ module _ (ks : List Kind) (f k d : ℕ) (room : suc k + d ≡ 65) (before : k �
   declr_far n q l h =
       far_bind (ident ks n) _ q h (λ g. absurd (ident_near ks n q g)) (λ x r g. (let i = ident_ok ks n x r in by_test x i.2 (sign_is sg.Assign (slice_get ks x.1)) g))
     where
-      by_test : (x : Ident × ℕ) → suc n ≡ x.1 → (t : Bool) → ◌≡◌ {A = Result (DeclrTree × ℕ) Fault} (cond t (read ks d 0 (suc x.1) >>= λ v. Ok (Init x.0 v.0, v.1)) (unset ks c x.0 x.1)) (Err (TooDeep q)) → 64 ≤ q
+      by_test : (x : Ident × ℕ) → suc n ≡ x.1 → (t : Bool)
+          → ◌≡◌ {A = Result (DeclrTree × ℕ) Fault} (cond t (read ks d 0 (suc x.1) >>= λ v. Ok (Init x.0 v.0, v.1)) (unset ks c x.0 x.1))
+          (Err (TooDeep q)) → 64 ≤ q
       by_test x i true h =
           far_bind (read ks d 0 (suc x.1)) _ q h ((expr_exact ks k k d room (omega arith)).far (suc x.1) q (omega arith)) (λ v r g. cc)
       by_test x i false h = unset_near c x.0 x.1 q h
@@ -185,37 +209,62 @@ module _ (ks : List Kind) (f k d : ℕ) (room : suc k + d ≡ 65) (before : k �
   valid_are [] h = tt
   valid_are (x ∷ xs) h = (h.0, valid_are xs h.1)
 
-  behind_is : (n e at : ℕ) (xs : List DeclrTree) (o : Option ℕ) → word_at ks wd.Int n ≡ Ok (suc n) → separated ks (declr_at ks d c) sg.Semicolon (length ks) (suc n) ≡ after o (Ok (xs, e)) → at ≡ n → declaration_behind ks d c n ≡ after o (Ok (record { is_const = c; at = at; declrs = xs }, e))
+  behind_is : (n e at : ℕ) (xs : List DeclrTree) (o : Option ℕ) → word_at ks wd.Int n ≡ Ok (suc n)
+      → separated ks (declr_at ks d c) sg.Semicolon (length ks) (suc n) ≡ after o (Ok (xs, e)) → at ≡ n
+      → declaration_behind ks d c n ≡ after o (Ok (record { is_const = c; at = at; declrs = xs }, e))
   unfolding declaration_behind
   behind_is n e at xs None w r a = rw (w, r) (ap (λ (z : ℕ). Ok (record { is_const = c; at = z; declrs = xs }, e)) (sym a))
   behind_is n e at xs (Some p) w r a = rw (w, r) refl
 
-  pub behind_complete : (v : DeclarationTree) (n e : ℕ) → v.is_const ≡ c → v.declrs ≢ [] → AreDeclrs c v.declrs → Spans ks n (tail_of k v) e → declaration_behind ks d c n ≡ after (first_deep n (tail_of k v)) (Ok (v, e))
+  pub behind_complete : (v : DeclarationTree) (n e : ℕ) → v.is_const ≡ c → v.declrs ≢ [] → AreDeclrs c v.declrs → Spans ks n (tail_of k v) e
+      → declaration_behind ks d c n ≡ after (first_deep n (tail_of k v)) (Ok (v, e))
   behind_complete v n e i o g s =
       let same : commas k (declrs k v.declrs) ++ sign_mark k sg.Semicolon ∷ [] ≡ row k (declr k) sg.Semicolon v.declrs = ap (λ z. commas k z ++ sign_mark k sg.Semicolon ∷ []) (declrs_are v.declrs) in
       let s' = subst (λ z. Spans ks (suc n) z e) same s.2 in
       let bound = spans_within ks n (named_word k wd.Int v.at) (row k (declr k) sg.Semicolon v.declrs) e (s.0, s.1, s') in
-      let inner = separated_complete ks f 1 k (IsDeclr c) (declr k) (λ x e. SepAt ks e) Free (declr_at ks d c) sg.Semicolon declr_exact fits refl (λ a n h. inl h) (λ a n h. inr h) v.declrs (length ks) (suc n) e o (omega (arith, spans_end ks (suc n) (row k (declr k) sg.Semicolon v.declrs) e s', length-append (commas k (each (declr k) v.declrs)) (sign_mark k sg.Semicolon ∷ []), commas_long v.declrs)) (are_valid v.declrs g) s' in
+      let inner = separated_complete ks f 1 k (IsDeclr c) (declr k) (λ x e. SepAt ks e) Free (declr_at ks d c) sg.Semicolon declr_exact fits
+          refl (λ a n h. inl h) (λ a n h. inr h) v.declrs (length ks) (suc n) e o
+          (omega (arith, spans_end ks (suc n) (row k (declr k) sg.Semicolon v.declrs) e s',
+          length-append (commas k (each (declr k) v.declrs)) (sign_mark k sg.Semicolon ∷ []), commas_long v.declrs)) (are_valid v.declrs g)
+          s' in
       let made_ = behind_is n e v.at v.declrs (first_deep (suc n) (row k (declr k) sg.Semicolon v.declrs)) (word_at_is ks wd.Int n s.0) inner s.1 in
-      made_ ∙ ap (λ (z : Bool). after (first_deep (suc n) (row k (declr k) sg.Semicolon v.declrs)) (Ok (record { is_const = z; at = v.at; declrs = v.declrs }, e))) (sym i) ∙ ap (λ z. after z (Ok (v, e))) (sym (deep_over n (named_word k wd.Int v.at) (commas k (declrs k v.declrs) ++ sign_mark k sg.Semicolon ∷ []) fits ∙ ap (first_deep (suc n)) same))
+      made_ ∙ ap (λ (z : Bool). after (first_deep (suc n) (row k (declr k) sg.Semicolon v.declrs))
+          (Ok (record { is_const = z; at = v.at; declrs = v.declrs }, e))) (sym i)
+          ∙ ap (λ z. after z (Ok (v, e)))
+          (sym (deep_over n (named_word k wd.Int v.at) (commas k (declrs k v.declrs) ++ sign_mark k sg.Semicolon ∷ []) fits
+          ∙ ap (first_deep (suc n)) same))
 
-  pub behind_sound : (n : ℕ) (y : DeclarationTree × ℕ) → declaration_behind ks d c n ≡ Ok y → (y.0.is_const ≡ c) × ((y.0.declrs ≢ []) × (AreDeclrs c y.0.declrs × (Spans ks n (tail_of k y.0) y.1 × (first_deep n (tail_of k y.0) ≡ None))))
+  pub behind_sound : (n : ℕ) (y : DeclarationTree × ℕ) → declaration_behind ks d c n ≡ Ok y → (y.0.is_const ≡ c)
+      × ((y.0.declrs ≢ []) × (AreDeclrs c y.0.declrs × (Spans ks n (tail_of k y.0) y.1 × (first_deep n (tail_of k y.0) ≡ None))))
   unfolding declaration_behind
   behind_sound n y h =
       let m = bind_ok (word_at ks wd.Int n) _ y h in
       let w = word_at_ok ks wd.Int n m.0 m.1 in
       let xs = bind_ok (separated ks (declr_at ks d c) sg.Semicolon (length ks) m.0) _ y m.2 in
-      let r : Separated ks k (IsDeclr c) (declr k) sg.Semicolon (suc n) xs.0.0 xs.0.1 = subst (λ z. Separated ks k (IsDeclr c) (declr k) sg.Semicolon z xs.0.0 xs.0.1) w.1 (separated_sound ks f 1 k (IsDeclr c) (declr k) (λ x e. SepAt ks e) Free (declr_at ks d c) sg.Semicolon declr_exact fits refl (λ a n h. inl h) (λ a n h. inr h) (length ks) m.0 xs.0 xs.1) in
+      let r : Separated ks k (IsDeclr c) (declr k) sg.Semicolon (suc n) xs.0.0 xs.0.1 =
+          subst (λ z. Separated ks k (IsDeclr c) (declr k) sg.Semicolon z xs.0.0 xs.0.1) w.1
+          (separated_sound ks f 1 k (IsDeclr c) (declr k) (λ x e. SepAt ks e) Free (declr_at ks d c) sg.Semicolon declr_exact fits refl
+          (λ a n h. inl h) (λ a n h. inr h) (length ks) m.0 xs.0 xs.1) in
       let same : row k (declr k) sg.Semicolon xs.0.0 ≡ commas k (declrs k xs.0.0) ++ sign_mark k sg.Semicolon ∷ [] = ap (λ z. commas k z ++ sign_mark k sg.Semicolon ∷ []) (sym (declrs_are xs.0.0)) in
-      let made_ : (c ≡ c) × ((xs.0.0 ≢ []) × (AreDeclrs c xs.0.0 × (Spans ks n (tail_of k (record { is_const = c; at = n; declrs = xs.0.0 })) xs.0.1 × (first_deep n (tail_of k (record { is_const = c; at = n; declrs = xs.0.0 })) ≡ None)))) = (refl, (r.some, (valid_are xs.0.0 r.valid, ((w.0, refl, subst (λ z. Spans ks (suc n) z xs.0.1) same r.spans), deep_over n (named_word k wd.Int n) (commas k (declrs k xs.0.0) ++ sign_mark k sg.Semicolon ∷ []) fits ∙ ap (first_deep (suc n)) (sym same) ∙ r.shallow)))) in
-      subst (λ (w : DeclarationTree × ℕ). (w.0.is_const ≡ c) × ((w.0.declrs ≢ []) × (AreDeclrs c w.0.declrs × (Spans ks n (tail_of k w.0) w.1 × (first_deep n (tail_of k w.0) ≡ None))))) (ok_one (record { is_const = c; at = n; declrs = xs.0.0 }, xs.0.1) y xs.2) made_
+      let made_ : (c ≡ c) × ((xs.0.0 ≢ []) ×
+          (AreDeclrs c xs.0.0 × (Spans ks n (tail_of k (record { is_const = c; at = n; declrs = xs.0.0 })) xs.0.1
+          × (first_deep n (tail_of k (record { is_const = c; at = n; declrs = xs.0.0 })) ≡ None)))) =
+          (refl, (r.some, (valid_are xs.0.0 r.valid,
+          ((w.0, refl, subst (λ z. Spans ks (suc n) z xs.0.1) same r.spans),
+          deep_over n (named_word k wd.Int n) (commas k (declrs k xs.0.0) ++ sign_mark k sg.Semicolon ∷ []) fits
+          ∙ ap (first_deep (suc n)) (sym same) ∙ r.shallow)))) in
+      subst (λ (w : DeclarationTree × ℕ). (w.0.is_const ≡ c)
+          × ((w.0.declrs ≢ []) × (AreDeclrs c w.0.declrs × (Spans ks n (tail_of k w.0) w.1 × (first_deep n (tail_of k w.0) ≡ None)))))
+          (ok_one (record { is_const = c; at = n; declrs = xs.0.0 }, xs.0.1) y xs.2) made_
 
   pub behind_far : (n q : ℕ) → f ≤ n → declaration_behind ks d c n ≡ Err (TooDeep q) → 64 ≤ q
   unfolding declaration_behind
   behind_far n q l h =
       far_bind (word_at ks wd.Int n) _ q h (word_far ks wd.Int n q) (λ m r g.
       (let w = word_at_ok ks wd.Int n m r in
-      far_bind (separated ks (declr_at ks d c) sg.Semicolon (length ks) m) _ q g (separated_far ks f 1 k (IsDeclr c) (declr k) (λ x e. SepAt ks e) Free (declr_at ks d c) sg.Semicolon declr_exact fits refl (λ a n h. inl h) (λ a n h. inr h) (length ks) m q (omega (arith, w.1))) (λ x r g. cc)))
+      far_bind (separated ks (declr_at ks d c) sg.Semicolon (length ks) m) _ q g
+          (separated_far ks f 1 k (IsDeclr c) (declr k) (λ x e. SepAt ks e) Free (declr_at ks d c) sg.Semicolon declr_exact fits refl
+          (λ a n h. inl h) (λ a n h. inr h) (length ks) m q (omega (arith, w.1))) (λ x r g. cc)))
 
 at_const : (ks : List Kind) (d n : ℕ) → slice_get ks n ≡ Some (kind.Word wd.Const) → declaration_at ks d n ≡ declaration_behind ks d true (suc n)
 unfolding declaration_at
@@ -237,11 +286,14 @@ module _ (ks : List Kind) (f k d : ℕ) (room : suc k + d ≡ 65) (before : k �
     where
       by_const : (c : Bool) → v.is_const ≡ c → AreDeclrs c v.declrs → Spans ks n (word_if c k wd.Const ++ tail_of k v) e → declaration_at ks d n ≡ after (first_deep n (vars k v)) (Ok (v, e))
       by_const true i g s =
-          at_const ks d n s.0 ∙ behind_complete ks f k d room before true v (suc n) e i o.0 g s.2 ∙ ap (λ z. after z (Ok (v, e))) (sym (ap (first_deep n) (vars_by k v true i) ∙ deep_over n (Rattle.c_tree.specs.Print.word_at k wd.Const) (tail_of k v) high))
+          at_const ks d n s.0 ∙ behind_complete ks f k d room before true v (suc n) e i o.0 g s.2
+              ∙ ap (λ z. after z (Ok (v, e)))
+              (sym (ap (first_deep n) (vars_by k v true i) ∙ deep_over n (Rattle.c_tree.specs.Print.word_at k wd.Const) (tail_of k v) high))
       by_const false i g s =
           at_int ks d n (rw s.0 refl) ∙ behind_complete ks f k d room before false v n e i o.0 g s ∙ ap (λ z. after z (Ok (v, e))) (sym (ap (first_deep n) (vars_by k v false i)))
 
-  pub declaration_sound : (n : ℕ) (y : DeclarationTree × ℕ) → declaration_at ks d n ≡ Ok y → Found ks IsDeclaration (vars k) Free n y.0 y.1 × ((word_is wd.Const (slice_get ks n) ≡ false) → y.0.is_const ≡ false)
+  pub declaration_sound : (n : ℕ) (y : DeclarationTree × ℕ) → declaration_at ks d n ≡ Ok y → Found ks IsDeclaration (vars k) Free n y.0 y.1
+      × ((word_is wd.Const (slice_get ks n) ≡ false) → y.0.is_const ≡ false)
   declaration_sound n y h = by_test (word_is wd.Const (slice_get ks n)) refl
     where
       by_test : (t : Bool) → word_is wd.Const (slice_get ks n) ≡ t → Found ks IsDeclaration (vars k) Free n y.0 y.1 × ((word_is wd.Const (slice_get ks n) ≡ false) → y.0.is_const ≡ false)

@@ -47,13 +47,19 @@ Any a = Unit {0}
 abbrev pub Free : {A : Type 0} → A → ℕ → Type 0
 Free a e = Unit {0}
 
-both_is : {A B : Type 0} (p : Reader A) (q : Reader B) (n j e : ℕ) (a : A) (b : B) (x y : Option ℕ) → p n ≡ after x (Ok (a, j)) → q j ≡ after y (Ok (b, e)) → both p q n ≡ after (or_else x y) (Ok ((a, b), e))
+both_is : {A B : Type 0} (p : Reader A) (q : Reader B) (n j e : ℕ) (a : A) (b : B) (x y : Option ℕ) → p n ≡ after x (Ok (a, j))
+    → q j ≡ after y (Ok (b, e)) → both p q n ≡ after (or_else x y) (Ok ((a, b), e))
 both_is p q n j e a b None None h g = rw (h, g) refl
 both_is p q n j e a b None (Some y) h g = rw (h, g) refl
 both_is p q n j e a b (Some x) y h g = rw h refl
 
 -- two readers, one after the other
-pub both_exact : (ks : List Kind) {A B : Type 0} (from size more : ℕ) (okA : A → Type 0) (okB : B → Type 0) (marksA : A → List Mark) (marksB : B → List Mark) (needsA givesA : A → ℕ → Type 0) (needsB givesB : B → ℕ → Type 0) (p : Reader A) (q : Reader B) → Exact ks from size okA marksA needsA givesA p → Exact ks (from + size) more okB marksB needsB givesB q → ((a : A) (b : B) (j e : ℕ) → okB b → Spans ks j (marksB b) e → needsA a j) → Exact ks from (size + more) (λ v. okA v.0 × okB v.1) (λ v. marksA v.0 ++ marksB v.1) (λ v e. needsB v.1 e) (λ v e. givesB v.1 e) (both p q)
+pub both_exact : (ks : List Kind) {A B : Type 0} (from size more : ℕ) (okA : A → Type 0) (okB : B → Type 0) (marksA : A → List Mark)
+    (marksB : B → List Mark) (needsA givesA : A → ℕ → Type 0) (needsB givesB : B → ℕ → Type 0) (p : Reader A) (q : Reader B)
+    → Exact ks from size okA marksA needsA givesA p → Exact ks (from + size) more okB marksB needsB givesB q
+    → ((a : A) (b : B) (j e : ℕ) → okB b → Spans ks j (marksB b) e → needsA a j)
+    → Exact ks from (size + more) (λ v. okA v.0 × okB v.1) (λ v. marksA v.0 ++ marksB v.1) (λ v e. needsB v.1 e) (λ v e. givesB v.1 e)
+    (both p q)
 both_exact ks {A = A} {B = B} from size more okA okB marksA marksB needsA givesA needsB givesB p q x y follow = record {
   complete = λ v n e o s h.
       (let r = spans_split ks n (marksA v.0) (marksB v.1) e s in
@@ -120,7 +126,10 @@ word_far ks w n p h = by_test (word_is w (slice_get ks n)) h
     by_test false h = cc
 
 -- a token of which nothing is kept
-plain_exact : (ks : List Kind) (from k : ℕ) (x : Kind) (t : ℕ → Result ℕ Fault) → nat_lt 64 k ≡ false → ((n : ℕ) → slice_get ks n ≡ Some x → t n ≡ Ok (suc n)) → ((n e : ℕ) → t n ≡ Ok e → (slice_get ks n ≡ Some x) × (e ≡ suc n)) → ((n p : ℕ) → t n ≡ Err (TooDeep p) → 64 ≤ p) → Exact ks {A = Unit {0}} from 1 Any (λ u. record { kind = x; number = None; level = k } ∷ []) Free Free (λ n. t n >>= λ e. Ok (tt, e))
+plain_exact : (ks : List Kind) (from k : ℕ) (x : Kind) (t : ℕ → Result ℕ Fault) → nat_lt 64 k ≡ false
+    → ((n : ℕ) → slice_get ks n ≡ Some x → t n ≡ Ok (suc n)) → ((n e : ℕ) → t n ≡ Ok e → (slice_get ks n ≡ Some x) × (e ≡ suc n))
+    → ((n p : ℕ) → t n ≡ Err (TooDeep p) → 64 ≤ p) → Exact ks {A = Unit {0}} from 1 Any
+    (λ u. record { kind = x; number = None; level = k } ∷ []) Free Free (λ n. t n >>= λ e. Ok (tt, e))
 plain_exact ks from k x t fits is ok far = record {
   complete = λ a n e o s h. rw (is n s.0, mark_shallow n (record { kind = x; number = None; level = k }) fits) (ap (λ (z : ℕ). Ok (tt, z)) s.2);
   sound = λ n y h.
@@ -141,7 +150,10 @@ plain_exact ks from k x t fits is ok far = record {
 }
 
 -- a token whose number is kept
-kept_exact : (ks : List Kind) (from k : ℕ) (x : Kind) (t : ℕ → Result ℕ Fault) → nat_lt 64 k ≡ false → ((n : ℕ) → slice_get ks n ≡ Some x → t n ≡ Ok (suc n)) → ((n e : ℕ) → t n ≡ Ok e → (slice_get ks n ≡ Some x) × (e ≡ suc n)) → ((n p : ℕ) → t n ≡ Err (TooDeep p) → 64 ≤ p) → Exact ks {A = ℕ} from 1 Any (λ at. record { kind = x; number = Some at; level = k } ∷ []) Free Free (λ n. t n >>= λ e. Ok (n, e))
+kept_exact : (ks : List Kind) (from k : ℕ) (x : Kind) (t : ℕ → Result ℕ Fault) → nat_lt 64 k ≡ false
+    → ((n : ℕ) → slice_get ks n ≡ Some x → t n ≡ Ok (suc n)) → ((n e : ℕ) → t n ≡ Ok e → (slice_get ks n ≡ Some x) × (e ≡ suc n))
+    → ((n p : ℕ) → t n ≡ Err (TooDeep p) → 64 ≤ p) → Exact ks {A = ℕ} from 1 Any
+    (λ at. record { kind = x; number = Some at; level = k } ∷ []) Free Free (λ n. t n >>= λ e. Ok (n, e))
 kept_exact ks from k x t fits is ok far = record {
   complete = λ a n e o s h. rw (is n s.0, mark_shallow n (record { kind = x; number = Some a; level = k }) fits) (ap (λ (z : ℕ). Ok (z, suc n)) (sym s.1) ∙ ap (λ (z : ℕ). Ok (a, z)) s.2);
   sound = λ n y h.
@@ -174,9 +186,14 @@ marked_exact ks from k w fits =
     kept_exact ks from k (kind.Word w) (word_at ks w) fits (λ n. word_at_is ks w n) (λ n e. word_at_ok ks w n e) (λ n p. word_far ks w n p)
 
 -- a reader of one token, which keeps what the token holds and its number
-item_exact : (ks : List Kind) {A : Type 0} (from k : ℕ) (kind_of : A → Kind) (at_of : A → ℕ) (p : Reader A) → nat_lt 64 k ≡ false → ((a : A) (n : ℕ) → slice_get ks n ≡ Some (kind_of a) → at_of a ≡ n → p n ≡ Ok (a, suc n)) → ((n : ℕ) (y : A × ℕ) → p n ≡ Ok y → (slice_get ks n ≡ Some (kind_of y.0)) × (at_of y.0 ≡ n) × (suc n ≡ y.1)) → ((n q : ℕ) → p n ≡ Err (TooDeep q) → ⊥) → Exact ks from 1 Any (λ a. record { kind = kind_of a; number = Some (at_of a); level = k } ∷ []) Free Free p
+item_exact : (ks : List Kind) {A : Type 0} (from k : ℕ) (kind_of : A → Kind) (at_of : A → ℕ) (p : Reader A) → nat_lt 64 k ≡ false
+    → ((a : A) (n : ℕ) → slice_get ks n ≡ Some (kind_of a) → at_of a ≡ n → p n ≡ Ok (a, suc n))
+    → ((n : ℕ) (y : A × ℕ) → p n ≡ Ok y → (slice_get ks n ≡ Some (kind_of y.0)) × (at_of y.0 ≡ n) × (suc n ≡ y.1))
+    → ((n q : ℕ) → p n ≡ Err (TooDeep q) → ⊥) → Exact ks from 1 Any
+    (λ a. record { kind = kind_of a; number = Some (at_of a); level = k } ∷ []) Free Free p
 item_exact ks from k kind_of at_of p fits is ok far = record {
-  complete = λ a n e o s h. is a n s.0 s.1 ∙ ap (λ (z : ℕ). Ok (a, z)) s.2 ∙ ap (λ z. after z (Ok (a, e))) (sym (mark_shallow n (record { kind = kind_of a; number = Some (at_of a); level = k }) fits));
+  complete = λ a n e o s h. is a n s.0 s.1 ∙ ap (λ (z : ℕ). Ok (a, z)) s.2
+      ∙ ap (λ z. after z (Ok (a, e))) (sym (mark_shallow n (record { kind = kind_of a; number = Some (at_of a); level = k }) fits));
   sound = λ n y h.
       (let q = ok n y h in
       record {
@@ -322,7 +339,10 @@ expr_exact ks from k d l f = record {
 }
 
 -- the same reader, called with more tokens before it, and with what is asked of its values said otherwise
-pub turned_exact : (ks : List Kind) {A : Type 0} (from' : ℕ) {from size : ℕ} {ok ok' : A → Type 0} {marks : A → List Mark} {needs gives needs' gives' : A → ℕ → Type 0} {p : Reader A} → from ≤ from' → ((a : A) → ok' a → ok a) → ((a : A) → ok a → ok' a) → ((a : A) (e : ℕ) → needs' a e → needs a e) → ((a : A) (e : ℕ) → gives a e → gives' a e) → Exact ks from size ok marks needs gives p → Exact ks from' size ok' marks needs' gives' p
+pub turned_exact : (ks : List Kind) {A : Type 0} (from' : ℕ) {from size : ℕ} {ok ok' : A → Type 0} {marks : A → List Mark}
+    {needs gives needs' gives' : A → ℕ → Type 0} {p : Reader A} → from ≤ from' → ((a : A) → ok' a → ok a) → ((a : A) → ok a → ok' a)
+    → ((a : A) (e : ℕ) → needs' a e → needs a e) → ((a : A) (e : ℕ) → gives a e → gives' a e) → Exact ks from size ok marks needs gives p
+    → Exact ks from' size ok' marks needs' gives' p
 turned_exact ks from' l a b c d x = record {
   complete = λ v n e o s h. x.complete v n e (a v o) s (c v e h);
   sound = λ n y h.
@@ -333,6 +353,10 @@ turned_exact ks from' l a b c d x = record {
 }
 
 -- two readers of tokens alone
-pub flat : (ks : List Kind) {A B : Type 0} {from size more : ℕ} {marksA : A → List Mark} {marksB : B → List Mark} {p : Reader A} {q : Reader B} → Exact ks from size Any marksA Free Free p → Exact ks from more Any marksB Free Free q → Exact ks from (size + more) Any (λ v. marksA v.0 ++ marksB v.1) Free Free (both p q)
+pub flat : (ks : List Kind) {A B : Type 0} {from size more : ℕ} {marksA : A → List Mark} {marksB : B → List Mark} {p : Reader A}
+    {q : Reader B} → Exact ks from size Any marksA Free Free p → Exact ks from more Any marksB Free Free q
+    → Exact ks from (size + more) Any (λ v. marksA v.0 ++ marksB v.1) Free Free (both p q)
 flat ks {from = from} {size = size} x y =
-    turned_exact ks from (omega arith) (λ v o. (tt, tt)) (λ v o. tt) (λ v e h. tt) (λ v e h. tt) (both_exact ks from size _ _ _ _ _ _ _ _ _ _ _ x (turned_exact ks (from + size) (omega arith) (λ v o. o) (λ v o. o) (λ v e h. h) (λ v e h. h) y) (λ a b j e o s. tt))
+    turned_exact ks from (omega arith) (λ v o. (tt, tt)) (λ v o. tt) (λ v e h. tt) (λ v e h. tt)
+        (both_exact ks from size _ _ _ _ _ _ _ _ _ _ _ x
+        (turned_exact ks (from + size) (omega arith) (λ v o. o) (λ v o. o) (λ v e h. h) (λ v e h. h) y) (λ a b j e o s. tt))

@@ -22,7 +22,8 @@ use Rattle.c_reader.proofs.Complete.{level_fits}
 use Rattle.c_reader.proofs.Sound.{Whole, Finds, front_sound, Held, held_more, chain_sound, sound}
 
 -- either the first step stops there, or the rest does
-pub far_bind : {A B : Type 0} (r : Result A Fault) (f : A → Result B Fault) (p : ℕ) → (r >>= f) ≡ Err (TooDeep p) → (r ≡ Err (TooDeep p) → 64 ≤ p) → ((x : A) → r ≡ Ok x → f x ≡ Err (TooDeep p) → 64 ≤ p) → 64 ≤ p
+pub far_bind : {A B : Type 0} (r : Result A Fault) (f : A → Result B Fault) (p : ℕ) → (r >>= f) ≡ Err (TooDeep p)
+    → (r ≡ Err (TooDeep p) → 64 ≤ p) → ((x : A) → r ≡ Ok x → f x ≡ Err (TooDeep p) → 64 ≤ p) → 64 ≤ p
 far_bind (Ok x) f p h a b = b x refl h
 far_bind (Err e) f p h a b = a (let same : e ≡ TooDeep p = cc in ap Err same)
 
@@ -69,7 +70,8 @@ module _ (ks : List Kind) (rec : Rec) (k : ℕ) (finds : Finds ks (suc k) rec) (
 
       by_test : (t : Bool) → cond t indexed plain ≡ Err (TooDeep p) → 64 ≤ p
       by_test true h =
-          far_bind (rec 0 (suc (suc n))) _ p h (far 0 (suc (suc n)) p zero-le (omega arith)) (λ i r g. far_bind (sign_at ks sign.RightBracket i.1) _ p g (sign_far ks sign.RightBracket i.1 p) (λ e q w. cc))
+          far_bind (rec 0 (suc (suc n))) _ p h (far 0 (suc (suc n)) p zero-le (omega arith))
+              (λ i r g. far_bind (sign_at ks sign.RightBracket i.1) _ p g (sign_far ks sign.RightBracket i.1 p) (λ e q w. cc))
       by_test false h = cc
 
   named_far : (n p : ℕ) (o : Option Kind) → ◌>>=◌ {B = ExprTree × ℕ} (name_in o (suc n)) (λ x. Ok (Deref n (record { name = x; at = suc n }), suc (suc n))) ≡ Err (TooDeep p) → 64 ≤ p
@@ -131,11 +133,17 @@ module _ (ks : List Kind) (rec : Rec) (k d : ℕ) (finds : Finds ks (suc k) rec)
   chain_far (suc c) m s l n p a b h g =
       chain_more (chain ks rec c m) (λ x op i t. chain_far c m s (Binary op n l x.0) x.1 p a (omega (arith, b)) i t) (operator_at ks m n) refl g
     where
-      chain_more : (go : ExprTree → ℕ → Step) → ((x : ExprTree × ℕ) (op : BinaryOp) → Held ks m s k (Binary op n l x.0) x.1 → go (Binary op n l x.0) x.1 ≡ Err (TooDeep p) → 64 ≤ p) → (o : Option BinaryOp) → operator_at ks m n ≡ o → on_operator {A = Step} o (Ok (l, n)) (λ op. rec (suc (level_of op)) (suc n) >>= λ x. go (Binary op n l x.0) x.1) ≡ Err (TooDeep p) → 64 ≤ p
+      chain_more : (go : ExprTree → ℕ → Step) →
+          ((x : ExprTree × ℕ) (op : BinaryOp) → Held ks m s k (Binary op n l x.0) x.1 → go (Binary op n l x.0) x.1 ≡ Err (TooDeep p)
+          → 64 ≤ p) → (o : Option BinaryOp) → operator_at ks m n ≡ o
+          → on_operator {A = Step} o (Ok (l, n)) (λ op. rec (suc (level_of op)) (suc n) >>= λ x. go (Binary op n l x.0) x.1) ≡ Err
+          (TooDeep p) → 64 ≤ p
       chain_more go next None o g = cc
       chain_more go next (Some op) o g =
           let past = whole_end ks s k l n h.whole in
-          far_bind (rec (suc (level_of op)) (suc n)) _ p g (far (suc (level_of op)) (suc n) p (omega (arith, (level_bounds op).1)) (omega arith)) (λ x r w. next x op (held_more ks rec k d finds room m s l n op x (omega (arith, b)) h o r) w)
+          far_bind (rec (suc (level_of op)) (suc n)) _ p g
+              (far (suc (level_of op)) (suc n) p (omega (arith, (level_bounds op).1)) (omega arith))
+              (λ x r w. next x op (held_more ks rec k d finds room m s l n op x (omega (arith, b)) h o r) w)
 
   choice_far : (m n : ℕ) (l : ExprTree) (p : ℕ) → k ≤ suc n → choice ks rec m l n ≡ Err (TooDeep p) → 64 ≤ p
   unfolding choice

@@ -41,24 +41,33 @@ use Rattle.std.proofs.lemmas.Bool.{true≢false}
 abbrev pub Needs : List Kind → HostTree → ℕ → Type 0
 Needs ks s e = host_ends_open s ≡ true → NoElse ks e
 
-if_one : (ks : List Kind) (d : ℕ) (rec : Reader HostTree) (n at j e : ℕ) (x : ExprTree) (a : HostTree) (p q : Option ℕ) → condition_at ks d n ≡ after p (Ok (x, j)) → body_at ks rec j ≡ after q (Ok (a, e)) → NoElse ks e → at ≡ n → if_at ks d rec n ≡ after (or_else p q) (Ok (HostIf at x a, e))
+if_one : (ks : List Kind) (d : ℕ) (rec : Reader HostTree) (n at j e : ℕ) (x : ExprTree) (a : HostTree) (p q : Option ℕ)
+    → condition_at ks d n ≡ after p (Ok (x, j)) → body_at ks rec j ≡ after q (Ok (a, e)) → NoElse ks e → at ≡ n
+    → if_at ks d rec n ≡ after (or_else p q) (Ok (HostIf at x a, e))
 unfolding if_at
 if_one ks d rec n at j e x a None None c b h i = rw (c, b, h) (ap (λ (z : ℕ). Ok (HostIf z x a, e)) (sym i))
 if_one ks d rec n at j e x a None (Some q) c b h i = rw (c, b) refl
 if_one ks d rec n at j e x a (Some p) q c b h i = rw c refl
 
-if_both : (ks : List Kind) (d : ℕ) (rec : Reader HostTree) (n at j l e : ℕ) (x : ExprTree) (a b : HostTree) (p q r : Option ℕ) → condition_at ks d n ≡ after p (Ok (x, j)) → body_at ks rec j ≡ after q (Ok (a, l)) → slice_get ks l ≡ Some (kind.Word wd.Else) → body_at ks rec (suc l) ≡ after r (Ok (b, e)) → at ≡ n → if_at ks d rec n ≡ after (or_else p (or_else q r)) (Ok (HostIfElse at x a b, e))
+if_both : (ks : List Kind) (d : ℕ) (rec : Reader HostTree) (n at j l e : ℕ) (x : ExprTree) (a b : HostTree) (p q r : Option ℕ)
+    → condition_at ks d n ≡ after p (Ok (x, j)) → body_at ks rec j ≡ after q (Ok (a, l)) → slice_get ks l ≡ Some (kind.Word wd.Else)
+    → body_at ks rec (suc l) ≡ after r (Ok (b, e)) → at ≡ n
+    → if_at ks d rec n ≡ after (or_else p (or_else q r)) (Ok (HostIfElse at x a b, e))
 unfolding if_at
 if_both ks d rec n at j l e x a b None None None c f h g i = rw (c, f, word_here wd.Else (slice_get ks l) h, g) (ap (λ (z : ℕ). Ok (HostIfElse z x a b, e)) (sym i))
 if_both ks d rec n at j l e x a b None None (Some r) c f h g i = rw (c, f, word_here wd.Else (slice_get ks l) h, g) refl
 if_both ks d rec n at j l e x a b None (Some q) r c f h g i = rw (c, f) refl
 if_both ks d rec n at j l e x a b (Some p) q r c f h g i = rw c refl
 
-block_is : (ks : List Kind) (d : ℕ) (rec : Reader HostTree) (n at j : ℕ) (xs : List HostTree) (o : Option ℕ) → sign_at ks sg.LeftBrace n ≡ Ok (suc n) → hosts_in ks closing.Brace rec (suc n) ≡ after o (Ok (xs, j)) → sign_at ks sg.RightBrace j ≡ Ok (suc j) → at ≡ n → host_led ks d rec lead.Block n ≡ after o (Ok (HostBlock at (host_trees xs), suc j))
+block_is : (ks : List Kind) (d : ℕ) (rec : Reader HostTree) (n at j : ℕ) (xs : List HostTree) (o : Option ℕ)
+    → sign_at ks sg.LeftBrace n ≡ Ok (suc n) → hosts_in ks closing.Brace rec (suc n) ≡ after o (Ok (xs, j))
+    → sign_at ks sg.RightBrace j ≡ Ok (suc j) → at ≡ n → host_led ks d rec lead.Block n ≡ after o (Ok (HostBlock at (host_trees xs), suc j))
 block_is ks d rec n at j xs None a b c i = rw (a, b, c) (ap (λ (z : ℕ). Ok (HostBlock z (host_trees xs), suc j)) (sym i))
 block_is ks d rec n at j xs (Some p) a b c i = rw (a, b) refl
 
-for_led : (ks : List Kind) (d : ℕ) (rec : Reader HostTree) (n j e : ℕ) (c : HostForHeaderTree) (s : HostTree) (p q : Option ℕ) → for_header_at ks d n ≡ after p (Ok (c, j)) → body_at ks rec j ≡ after q (Ok (s, e)) → host_led ks d rec lead.For n ≡ after (or_else p q) (Ok (HostFor c s, e))
+for_led : (ks : List Kind) (d : ℕ) (rec : Reader HostTree) (n j e : ℕ) (c : HostForHeaderTree) (s : HostTree) (p q : Option ℕ)
+    → for_header_at ks d n ≡ after p (Ok (c, j)) → body_at ks rec j ≡ after q (Ok (s, e))
+    → host_led ks d rec lead.For n ≡ after (or_else p q) (Ok (HostFor c s, e))
 for_led ks d rec n j e c s None None h b = rw (h, b) refl
 for_led ks d rec n j e c s None (Some q) h b = rw (h, b) refl
 for_led ks d rec n j e c s (Some p) q h b = rw h refl
@@ -133,7 +142,9 @@ module _ (ks : List Kind) (f k d : ℕ) (room : suc k + d ≡ 65) (before : k �
       host_some (HostBlock at ss) = omega arith
       host_some (HostEmpty at) = omega arith
       host_some (HostAssign a) =
-          omega (arith, place_some a.place, length-append (place (suc k) a.place) (named_sign (suc k) (Rattle.c_tree.specs.Signs.assign_sign_of a.op) a.at ∷ (expr (suc (suc k)) a.value ++ sign_mark (suc k) sg.Semicolon ∷ [])))
+          omega (arith, place_some a.place, length-append (place (suc k) a.place)
+              (named_sign (suc k) (Rattle.c_tree.specs.Signs.assign_sign_of a.op) a.at
+              ∷ (expr (suc (suc k)) a.value ++ sign_mark (suc k) sg.Semicolon ∷ [])))
       host_some (HostIf at c t) = omega arith
       host_some (HostIfElse at c t u) = omega arith
       host_some (HostFor c t) = omega arith
@@ -143,13 +154,19 @@ module _ (ks : List Kind) (f k d : ℕ) (room : suc k + d ≡ 65) (before : k �
   close_else closing.Brace n h = rw (sign_found sg.RightBrace (slice_get ks n) h) refl
   close_else closing.Exit n h = rw (word_found wd.OpExit (slice_get ks n) h) refl
 
-  pub block_complete : (c : Closing) (t : Kind) (ss : HostTrees) (n e : ℕ) → AreHosts ss → Spans ks n (hosts (suc k) ss) e → slice_get ks e ≡ Some t → is_closed ks c e ≡ true → hosts_in ks c rec n ≡ after (first_deep n (hosts (suc k) ss)) (Ok (list_of ss, e))
+  pub block_complete : (c : Closing) (t : Kind) (ss : HostTrees) (n e : ℕ) → AreHosts ss → Spans ks n (hosts (suc k) ss) e
+      → slice_get ks e ≡ Some t → is_closed ks c e ≡ true
+      → hosts_in ks c rec n ≡ after (first_deep n (hosts (suc k) ss)) (Ok (list_of ss, e))
   block_complete c t ss n e o s h i =
       let s' = subst (λ z. Spans ks n z e) (hosts_joined (suc k) ss) s in
       let valid = valid_list ss o in
-      until_complete ks (f + 1) IsHost (host (suc k)) (Needs ks) (Needs ks) rec x (is_closed ks c) (NoElse ks) (λ a n e more o s. (let r = host_begins ks (suc k) n e a more o s in (r.no_close c, r.no_else))) (λ n h. close_else c n h) (λ a n h u. h) (list_of ss) (length ks) n e (omega (arith, hosts_long (list_of ss) n e valid s', slice_get_within ks e t h)) valid s' i ∙ ap (λ z. after z (Ok (list_of ss, e))) (ap (first_deep n) (sym (hosts_joined (suc k) ss)))
+      until_complete ks (f + 1) IsHost (host (suc k)) (Needs ks) (Needs ks) rec x (is_closed ks c) (NoElse ks)
+          (λ a n e more o s. (let r = host_begins ks (suc k) n e a more o s in (r.no_close c, r.no_else))) (λ n h. close_else c n h)
+          (λ a n h u. h) (list_of ss) (length ks) n e (omega (arith, hosts_long (list_of ss) n e valid s', slice_get_within ks e t h)) valid
+          s' i ∙ ap (λ z. after z (Ok (list_of ss, e))) (ap (first_deep n) (sym (hosts_joined (suc k) ss)))
 
-  pub block_sound : (c : Closing) (n : ℕ) (y : List HostTree × ℕ) → hosts_in ks c rec n ≡ Ok y → AreHosts (host_trees y.0) × (Spans ks n (hosts (suc k) (host_trees y.0)) y.1 × (first_deep n (hosts (suc k) (host_trees y.0)) ≡ None))
+  pub block_sound : (c : Closing) (n : ℕ) (y : List HostTree × ℕ) → hosts_in ks c rec n ≡ Ok y → AreHosts (host_trees y.0)
+      × (Spans ks n (hosts (suc k) (host_trees y.0)) y.1 × (first_deep n (hosts (suc k) (host_trees y.0)) ≡ None))
   block_sound c n y h =
       let r = (until_sound ks (f + 1) 1 IsHost (host (suc k)) (Needs ks) (Needs ks) rec x (is_closed ks c) (length ks) n y h).0 in
       let same = joined_hosts (suc k) y.0 in
@@ -165,7 +182,14 @@ module _ (ks : List Kind) (f k d : ℕ) (room : suc k + d ≡ 65) (before : k �
   led_complete (HostBlock at ss) n e o s h =
       let rb = sign_mark k sg.RightBrace in
       let r = spans_split ks (suc n) (hosts (suc k) ss) (rb ∷ []) e s.2 in
-      block_is ks d rec n at r.0 (list_of ss) (first_deep (suc n) (hosts (suc k) ss)) (sign_at_is ks sg.LeftBrace n s.0) (block_complete closing.Brace (kind.Sign sg.RightBrace) ss (suc n) r.0 o r.1 r.2.0 (rw r.2.0 refl)) (sign_at_is ks sg.RightBrace r.0 r.2.0) s.1 ∙ ap (λ z. after (first_deep (suc n) (hosts (suc k) ss)) (Ok (HostBlock at z, suc r.0))) (trees_list ss) ∙ ap (λ (z : ℕ). after (first_deep (suc n) (hosts (suc k) ss)) (Ok (HostBlock at ss, z))) r.2.2 ∙ ap (λ z. after z (Ok (HostBlock at ss, e))) (sym (deep_over n (named_sign k sg.LeftBrace at) (hosts (suc k) ss ++ rb ∷ []) fits ∙ deep_closed ks (suc n) (hosts (suc k) ss) rb r.0 r.1 fits))
+      block_is ks d rec n at r.0 (list_of ss) (first_deep (suc n) (hosts (suc k) ss)) (sign_at_is ks sg.LeftBrace n s.0)
+          (block_complete closing.Brace (kind.Sign sg.RightBrace) ss (suc n) r.0 o r.1 r.2.0 (rw r.2.0 refl))
+          (sign_at_is ks sg.RightBrace r.0 r.2.0) s.1 ∙ ap
+          (λ z. after (first_deep (suc n) (hosts (suc k) ss)) (Ok (HostBlock at z, suc r.0))) (trees_list ss)
+          ∙ ap (λ (z : ℕ). after (first_deep (suc n) (hosts (suc k) ss)) (Ok (HostBlock at ss, z))) r.2.2
+          ∙ ap (λ z. after z (Ok (HostBlock at ss, e)))
+          (sym (deep_over n (named_sign k sg.LeftBrace at) (hosts (suc k) ss ++ rb ∷ []) fits
+          ∙ deep_closed ks (suc n) (hosts (suc k) ss) rb r.0 r.1 fits))
   led_complete (HostEmpty at) n e o s h =
       let deep : first_deep n (host k (HostEmpty at)) ≡ None = deep_over n (named_sign k sg.Semicolon at) [] fits in
       rw (sign_at_is ks sg.Semicolon n s.0, deep) (ap (λ (z : ℕ). Ok (HostEmpty z, suc n)) (sym s.1) ∙ ap (λ (z : ℕ). Ok (HostEmpty at, z)) s.2)
@@ -175,7 +199,8 @@ module _ (ks : List Kind) (f k d : ℕ) (room : suc k + d ≡ 65) (before : k �
       let r = spans_split ks n (condition k at c) (host (suc k) t) e s in
       let one = condition_complete ks f k d room before at c n r.0 o.0 r.1 in
       let two = body_complete t r.0 e o.1 o.2 r.2 (λ z. h refl) in
-      if_one ks d rec n at r.0 e c t (first_deep n (condition k at c)) (first_deep r.0 (host (suc k) t)) one two (h refl) s.1 ∙ ap (λ z. after z (Ok (HostIf at c t, e))) (sym (deep_split ks n (condition k at c) (host (suc k) t) r.0 r.1))
+      if_one ks d rec n at r.0 e c t (first_deep n (condition k at c)) (first_deep r.0 (host (suc k) t)) one two (h refl) s.1
+          ∙ ap (λ z. after z (Ok (HostIf at c t, e))) (sym (deep_split ks n (condition k at c) (host (suc k) t) r.0 r.1))
   led_complete (HostIfElse at c t u) n e o s h =
       let tail = host (suc k) t ++ (word_mark k wd.Else ∷ host (suc k) u) in
       let r = spans_split ks n (condition k at c) tail e s in
@@ -183,10 +208,17 @@ module _ (ks : List Kind) (f k d : ℕ) (room : suc k + d ≡ 65) (before : k �
       let one = condition_complete ks f k d room before at c n r.0 o.0 r.1 in
       let two = body_complete t r.0 q.0 o.1 o.2 q.1 (λ z. absurd (true≢false (sym z ∙ o.3))) in
       let three = body_complete u (suc q.0) e o.4 o.5 q.2.2 (λ z. h z) in
-      if_both ks d rec n at r.0 q.0 e c t u (first_deep n (condition k at c)) (first_deep r.0 (host (suc k) t)) (first_deep (suc q.0) (host (suc k) u)) one two q.2.0 three s.1 ∙ ap (λ z. after z (Ok (HostIfElse at c t u, e))) (sym (deep_split ks n (condition k at c) tail r.0 r.1 ∙ ap (or_else (first_deep n (condition k at c))) (deep_between ks r.0 (host (suc k) t) (word_mark k wd.Else) (host (suc k) u) q.0 q.1 fits)))
+      if_both ks d rec n at r.0 q.0 e c t u (first_deep n (condition k at c)) (first_deep r.0 (host (suc k) t))
+          (first_deep (suc q.0) (host (suc k) u)) one two q.2.0 three s.1
+          ∙ ap (λ z. after z (Ok (HostIfElse at c t u, e)))
+          (sym (deep_split ks n (condition k at c) tail r.0 r.1
+          ∙ ap (or_else (first_deep n (condition k at c)))
+          (deep_between ks r.0 (host (suc k) t) (word_mark k wd.Else) (host (suc k) u) q.0 q.1 fits)))
   led_complete (HostFor c t) n e o s h =
       let r = spans_split ks n (host_counter k c) (host (suc k) t) e s in
-      for_led ks d rec n r.0 e c t (first_deep n (host_counter k c)) (first_deep r.0 (host (suc k) t)) (header_complete ks f k d room before c n r.0 o.0 r.1) (body_complete t r.0 e o.1 o.2 r.2 (λ z. h z)) ∙ ap (λ z. after z (Ok (HostFor c t, e))) (sym (deep_split ks n (host_counter k c) (host (suc k) t) r.0 r.1))
+      for_led ks d rec n r.0 e c t (first_deep n (host_counter k c)) (first_deep r.0 (host (suc k) t))
+          (header_complete ks f k d room before c n r.0 o.0 r.1) (body_complete t r.0 e o.1 o.2 r.2 (λ z. h z))
+          ∙ ap (λ z. after z (Ok (HostFor c t, e))) (sym (deep_split ks n (host_counter k c) (host (suc k) t) r.0 r.1))
   led_complete (HostCall c) n e o s h =
       made_complete HostCall (call_at ks d (call_lead c)) n e c (first_deep n (call k c)) (call_complete ks f k d room before c n e o s)
 
@@ -203,7 +235,9 @@ module _ (ks : List Kind) (f k d : ℕ) (room : suc k + d ≡ 65) (before : k �
       let s = bind_ok (body_at ks rec c.0.1) _ y c.2 in
       by_test c.0 s.0 (condition_sound ks f k d room before n c.0 c.1) (body_sound c.0.1 s.0 s.1) (word_is wd.Else (slice_get ks s.0.1)) refl s.2
     where
-      by_test : (c : ExprTree × ℕ) (s : HostTree × ℕ) → Condition ks k n c.0 c.1 → IsHostBody s.0 × Found ks IsHost (host (suc k)) (Needs ks) c.1 s.0 s.1 → (t : Bool) → word_is wd.Else (slice_get ks s.1) ≡ t → cond t (body_at ks rec (suc s.1) >>= λ t. Ok (HostIfElse n c.0 s.0 t.0, t.1)) (Ok (HostIf n c.0 s.0, s.1)) ≡ Ok y → FoundAt n y
+      by_test : (c : ExprTree × ℕ) (s : HostTree × ℕ) → Condition ks k n c.0 c.1 → IsHostBody s.0
+          × Found ks IsHost (host (suc k)) (Needs ks) c.1 s.0 s.1 → (t : Bool) → word_is wd.Else (slice_get ks s.1) ≡ t
+          → cond t (body_at ks rec (suc s.1) >>= λ t. Ok (HostIfElse n c.0 s.0 t.0, t.1)) (Ok (HostIf n c.0 s.0, s.1)) ≡ Ok y → FoundAt n y
       by_test c s o b false t h =
           let made_ : FoundAt n (HostIf n c.0 s.0, s.1) = record {
             valid = (o.grouped, b.0, b.1.valid);
@@ -247,7 +281,11 @@ module _ (ks : List Kind) (f k d : ℕ) (room : suc k + d ≡ 65) (before : k �
       let c = bind_ok (sign_at ks sg.RightBrace b.0.1) _ y b.2 in
       let g = sign_at_ok ks sg.LeftBrace n o.0 o.1 in
       let u = sign_at_ok ks sg.RightBrace b.0.1 c.0 c.1 in
-      let r : AreHosts (host_trees b.0.0) × (Spans ks (suc n) (hosts (suc k) (host_trees b.0.0)) b.0.1 × (first_deep (suc n) (hosts (suc k) (host_trees b.0.0)) ≡ None)) = subst (λ z. AreHosts (host_trees b.0.0) × (Spans ks z (hosts (suc k) (host_trees b.0.0)) b.0.1 × (first_deep z (hosts (suc k) (host_trees b.0.0)) ≡ None))) g.1 (block_sound closing.Brace o.0 b.0 b.1) in
+      let r : AreHosts (host_trees b.0.0) ×
+          (Spans ks (suc n) (hosts (suc k) (host_trees b.0.0)) b.0.1 × (first_deep (suc n) (hosts (suc k) (host_trees b.0.0)) ≡ None)) =
+          subst (λ z. AreHosts (host_trees b.0.0) ×
+          (Spans ks z (hosts (suc k) (host_trees b.0.0)) b.0.1 × (first_deep z (hosts (suc k) (host_trees b.0.0)) ≡ None))) g.1
+          (block_sound closing.Brace o.0 b.0 b.1) in
       let rb = sign_mark k sg.RightBrace in
       let made_ : FoundAt n (HostBlock n (host_trees b.0.0), c.0) = record {
         valid = r.0;
@@ -294,7 +332,10 @@ module _ (ks : List Kind) (f k d : ℕ) (room : suc k + d ≡ 65) (before : k �
       let moved = spans_end ks n (condition k n c.0) c.1 o.spans in
       far_bind (body_at ks rec c.1) _ q g (body_far c.1 q (omega arith)) (λ s r g. (let m = body_moves c.1 s r in by_test c s (omega arith) (word_is wd.Else (slice_get ks s.1)) g))))
     where
-      by_test : (c : ExprTree × ℕ) (s : HostTree × ℕ) → f + 1 ≤ s.1 → (t : Bool) → ◌≡◌ {A = Result (HostTree × ℕ) Fault} (cond t (body_at ks rec (suc s.1) >>= λ t. Ok (HostIfElse n c.0 s.0 t.0, t.1)) (Ok (HostIf n c.0 s.0, s.1))) (Err (TooDeep q)) → 64 ≤ q
+      by_test : (c : ExprTree × ℕ) (s : HostTree × ℕ) → f + 1 ≤ s.1 → (t : Bool)
+          → ◌≡◌ {A = Result (HostTree × ℕ) Fault}
+          (cond t (body_at ks rec (suc s.1) >>= λ t. Ok (HostIfElse n c.0 s.0 t.0, t.1)) (Ok (HostIf n c.0 s.0, s.1))) (Err (TooDeep q))
+          → 64 ≤ q
       by_test c s m true g = far_bind (body_at ks rec (suc s.1)) _ q g (body_far (suc s.1) q (omega arith)) (λ u r g. cc)
       by_test c s m false g = cc
 
@@ -303,7 +344,8 @@ module _ (ks : List Kind) (f k d : ℕ) (room : suc k + d ≡ 65) (before : k �
   led_far lead.Block n q l h =
       far_bind (sign_at ks sg.LeftBrace n) _ q h (sign_far ks sg.LeftBrace n q) (λ o r g.
       (let i = sign_at_ok ks sg.LeftBrace n o r in
-      far_bind (hosts_in ks closing.Brace rec o) _ q g (block_far closing.Brace o q (omega (arith, i.1))) (λ b r g. far_bind (sign_at ks sg.RightBrace b.1) _ q g (sign_far ks sg.RightBrace b.1 q) (λ e r g. cc))))
+      far_bind (hosts_in ks closing.Brace rec o) _ q g (block_far closing.Brace o q (omega (arith, i.1)))
+          (λ b r g. far_bind (sign_at ks sg.RightBrace b.1) _ q g (sign_far ks sg.RightBrace b.1 q) (λ e r g. cc))))
   led_far lead.Empty n q l h = far_bind (sign_at ks sg.Semicolon n) _ q h (sign_far ks sg.Semicolon n q) (λ e r g. cc)
   led_far lead.Assignment n q l h = far_bind (assignment_at ks d n) _ q h (assignment_far ks f k d room before n q l) (λ v r g. cc)
   led_far lead.If n q l h = if_far n q l h
@@ -330,7 +372,8 @@ module _ (ks : List Kind) (f k d : ℕ) (room : suc k + d ≡ 65) (before : k �
       host_some (HostBlock at ss) = omega arith
       host_some (HostEmpty at) = omega arith
       host_some (HostAssign a) =
-          omega (arith, place_some a.place, length-append (place k a.place) (named_sign k (Rattle.c_tree.specs.Signs.assign_sign_of a.op) a.at ∷ (expr (suc k) a.value ++ sign_mark k sg.Semicolon ∷ [])))
+          omega (arith, place_some a.place, length-append (place k a.place)
+              (named_sign k (Rattle.c_tree.specs.Signs.assign_sign_of a.op) a.at ∷ (expr (suc k) a.value ++ sign_mark k sg.Semicolon ∷ [])))
       host_some (HostIf at c t) = omega arith
       host_some (HostIfElse at c t u) = omega arith
       host_some (HostFor c t) = omega arith
@@ -368,7 +411,9 @@ host_exact ks (suc d) k f l b =
           (let r = host_begins ks k n e s [] o (subst (λ z. Spans ks n z e) (sym (nil_right (host k s))) p) in
           level_is ks d n (host_lead s) r.lead ∙ led_complete ks f k d (omega arith) b (host_at ks d) inner s n e o p h);
       sound = λ n y h. led_sound ks f k d (omega arith) b (host_at ks d) inner (lead_in (slice_get ks n)) n y refl (sym (level_is ks d n (lead_in (slice_get ks n)) refl) ∙ h);
-      moves = λ n y h. led_moves ks f k d (omega arith) b (host_at ks d) inner n y (led_sound ks f k d (omega arith) b (host_at ks d) inner (lead_in (slice_get ks n)) n y refl (sym (level_is ks d n (lead_in (slice_get ks n)) refl) ∙ h));
+      moves = λ n y h. led_moves ks f k d (omega arith) b (host_at ks d) inner n y
+          (led_sound ks f k d (omega arith) b (host_at ks d) inner (lead_in (slice_get ks n)) n y refl
+          (sym (level_is ks d n (lead_in (slice_get ks n)) refl) ∙ h));
       far = λ n q m h. led_far ks f k d (omega arith) b (host_at ks d) inner (lead_in (slice_get ks n)) n q m (sym (level_is ks d n (lead_in (slice_get ks n)) refl) ∙ h);
     }
       where

@@ -42,11 +42,14 @@ until_none : {A : Type 0} (closes : ℕ → Bool) (p : Reader A) (n : ℕ) → u
 unfolding until
 until_none closes p n = refl
 
-module _ {X A : Type 0} (view : X → A) (closes : ℕ → Bool) (p : Reader A) (m c n : ℕ) (xs : List X) (all : Result (List A × ℕ) Fault) (so_far : all ≡ with_front (map view xs) (until closes p (m - c) n)) where
+module _ {X A : Type 0} (view : X → A) (closes : ℕ → Bool) (p : Reader A) (m c n : ℕ) (xs : List X) (all : Result (List A × ℕ) Fault)
+    (so_far : all ≡ with_front (map view xs) (until closes p (m - c) n)) where
   -- one item more
   pub until_turn : (x : X) (e : ℕ) → c < m → closes n ≡ false → p n ≡ Ok (view x, e) → all ≡ with_front (map view (xs ++ x ∷ [])) (until closes p (m - (c + 1)) e)
   until_turn x e h b r =
-      so_far ∙ ap (λ z. with_front (map view xs) (until closes p z n)) (left_over c m h) ∙ ap (with_front (map view xs)) (until_step closes p (m - (c + 1)) n (view x) e b r) ∙ push_front view xs x (until closes p (m - (c + 1)) e)
+      so_far ∙ ap (λ z. with_front (map view xs) (until closes p z n)) (left_over c m h)
+          ∙ ap (with_front (map view xs)) (until_step closes p (m - (c + 1)) n (view x) e b r)
+          ∙ push_front view xs x (until closes p (m - (c + 1)) e)
 
   -- an item that isn't read
   pub until_fails : (e : ReadError) → c < m → closes n ≡ false → Fails e (p n) → Fails e all
@@ -57,7 +60,8 @@ module _ {X A : Type 0} (view : X → A) (closes : ℕ → Bool) (p : Reader A) 
   -- what closes the items
   pub until_ends : c < m → closes n ≡ true → all ≡ Ok (map view xs, n)
   until_ends h b =
-      so_far ∙ ap (λ z. with_front (map view xs) (until closes p z n)) (left_over c m h) ∙ ap (with_front (map view xs)) (until_end closes p (m - (c + 1)) n b) ∙ ap (λ z. Ok (z, n)) (append-nil (map view xs))
+      so_far ∙ ap (λ z. with_front (map view xs) (until closes p z n)) (left_over c m h)
+          ∙ ap (with_front (map view xs)) (until_end closes p (m - (c + 1)) n b) ∙ ap (λ z. Ok (z, n)) (append-nil (map view xs))
 
   -- no tokens left
   pub until_over : m ≤ c → all ≡ Err (Syntax n)
@@ -65,7 +69,8 @@ module _ {X A : Type 0} (view : X → A) (closes : ℕ → Bool) (p : Reader A) 
       let none : m - c ≡ 0 = omega arith in
       so_far ∙ ap (λ z. with_front (map view xs) (until closes p z n)) none ∙ ap (with_front (map view xs)) (until_none closes p n)
 
-commas_step : {A : Type 0} (ks : List Kind) (p : Reader A) (c n : ℕ) (a : A) (e : ℕ) → sign_is s.Comma (slice_get ks n) ≡ true → p (suc n) ≡ Ok (a, e) → behind_commas ks p (suc c) n ≡ (behind_commas ks p c e >>= λ r. Ok (a ∷ r.0, r.1))
+commas_step : {A : Type 0} (ks : List Kind) (p : Reader A) (c n : ℕ) (a : A) (e : ℕ) → sign_is s.Comma (slice_get ks n) ≡ true
+    → p (suc n) ≡ Ok (a, e) → behind_commas ks p (suc c) n ≡ (behind_commas ks p c e >>= λ r. Ok (a ∷ r.0, r.1))
 unfolding behind_commas
 commas_step ks p c n a e h r = rw (h, r) refl
 
@@ -81,10 +86,13 @@ commas_none : {A : Type 0} (ks : List Kind) (p : Reader A) (n : ℕ) → behind_
 unfolding behind_commas
 commas_none ks p n = refl
 
-module _ {X A : Type 0} (view : X → A) (ks : List Kind) (p : Reader A) (m c n : ℕ) (xs : List X) (all : Result (List A × ℕ) Fault) (so_far : all ≡ with_front (map view xs) (behind_commas ks p (m - c) n)) where
+module _ {X A : Type 0} (view : X → A) (ks : List Kind) (p : Reader A) (m c n : ℕ) (xs : List X) (all : Result (List A × ℕ) Fault)
+    (so_far : all ≡ with_front (map view xs) (behind_commas ks p (m - c) n)) where
   pub commas_turn : (x : X) (e : ℕ) → c < m → sign_is s.Comma (slice_get ks n) ≡ true → p (n + 1) ≡ Ok (view x, e) → all ≡ with_front (map view (xs ++ x ∷ [])) (behind_commas ks p (m - (c + 1)) e)
   commas_turn x e h b r =
-      so_far ∙ ap (λ z. with_front (map view xs) (behind_commas ks p z n)) (left_over c m h) ∙ ap (with_front (map view xs)) (commas_step ks p (m - (c + 1)) n (view x) e b (rw (← add-one n) r)) ∙ push_front view xs x (behind_commas ks p (m - (c + 1)) e)
+      so_far ∙ ap (λ z. with_front (map view xs) (behind_commas ks p z n)) (left_over c m h)
+          ∙ ap (with_front (map view xs)) (commas_step ks p (m - (c + 1)) n (view x) e b (rw (← add-one n) r))
+          ∙ push_front view xs x (behind_commas ks p (m - (c + 1)) e)
 
   pub commas_fails : (e : ReadError) → c < m → sign_is s.Comma (slice_get ks n) ≡ true → Fails e (p (n + 1)) → Fails e all
   commas_fails errors.Memory h b r = tt
@@ -93,18 +101,21 @@ module _ {X A : Type 0} (view : X → A) (ks : List Kind) (p : Reader A) (m c n 
 
   pub commas_ends : c < m → sign_is s.Comma (slice_get ks n) ≡ false → all ≡ Ok (map view xs, n)
   commas_ends h b =
-      so_far ∙ ap (λ z. with_front (map view xs) (behind_commas ks p z n)) (left_over c m h) ∙ ap (with_front (map view xs)) (commas_end ks p (m - (c + 1)) n b) ∙ ap (λ z. Ok (z, n)) (append-nil (map view xs))
+      so_far ∙ ap (λ z. with_front (map view xs) (behind_commas ks p z n)) (left_over c m h)
+          ∙ ap (with_front (map view xs)) (commas_end ks p (m - (c + 1)) n b) ∙ ap (λ z. Ok (z, n)) (append-nil (map view xs))
 
   pub commas_over : m ≤ c → all ≡ Err (Syntax n)
   commas_over h =
       let none : m - c ≡ 0 = omega arith in
       so_far ∙ ap (λ z. with_front (map view xs) (behind_commas ks p z n)) none ∙ ap (with_front (map view xs)) (commas_none ks p n)
 
-separated_step : {A : Type 0} (ks : List Kind) (p : Reader A) (last : Sign) (c n : ℕ) (a : A) (e : ℕ) → p n ≡ Ok (a, e) → sign_is s.Comma (slice_get ks e) ≡ true → separated ks p last (suc c) n ≡ (separated ks p last c (suc e) >>= λ r. Ok (a ∷ r.0, r.1))
+separated_step : {A : Type 0} (ks : List Kind) (p : Reader A) (last : Sign) (c n : ℕ) (a : A) (e : ℕ) → p n ≡ Ok (a, e)
+    → sign_is s.Comma (slice_get ks e) ≡ true → separated ks p last (suc c) n ≡ (separated ks p last c (suc e) >>= λ r. Ok (a ∷ r.0, r.1))
 unfolding separated
 separated_step ks p last c n a e r h = rw (r, h) refl
 
-separated_close : {A : Type 0} (ks : List Kind) (p : Reader A) (last : Sign) (c n : ℕ) (a : A) (e : ℕ) → p n ≡ Ok (a, e) → sign_is s.Comma (slice_get ks e) ≡ false → separated ks p last (suc c) n ≡ (sign_at ks last e >>= λ i. Ok (a ∷ [], i))
+separated_close : {A : Type 0} (ks : List Kind) (p : Reader A) (last : Sign) (c n : ℕ) (a : A) (e : ℕ) → p n ≡ Ok (a, e)
+    → sign_is s.Comma (slice_get ks e) ≡ false → separated ks p last (suc c) n ≡ (sign_at ks last e >>= λ i. Ok (a ∷ [], i))
 unfolding separated
 separated_close ks p last c n a e r h = rw (r, h) refl
 
@@ -116,10 +127,14 @@ separated_none : {A : Type 0} (ks : List Kind) (p : Reader A) (last : Sign) (n :
 unfolding separated
 separated_none ks p last n = refl
 
-module _ {X A : Type 0} (view : X → A) (ks : List Kind) (p : Reader A) (last : Sign) (m c n : ℕ) (xs : List X) (all : Result (List A × ℕ) Fault) (so_far : all ≡ with_front (map view xs) (separated ks p last (m - c) n)) where
+module _ {X A : Type 0} (view : X → A) (ks : List Kind) (p : Reader A) (last : Sign) (m c n : ℕ) (xs : List X)
+    (all : Result (List A × ℕ) Fault) (so_far : all ≡ with_front (map view xs) (separated ks p last (m - c) n)) where
   pub separated_turn : (x : X) (e : ℕ) → c < m → p n ≡ Ok (view x, e) → sign_is s.Comma (slice_get ks e) ≡ true → all ≡ with_front (map view (xs ++ x ∷ [])) (separated ks p last (m - (c + 1)) (e + 1))
   separated_turn x e h r b =
-      so_far ∙ ap (λ z. with_front (map view xs) (separated ks p last z n)) (left_over c m h) ∙ ap (with_front (map view xs)) (separated_step ks p last (m - (c + 1)) n (view x) e r b) ∙ push_front view xs x (separated ks p last (m - (c + 1)) (suc e)) ∙ ap (λ z. with_front (map view (xs ++ x ∷ [])) (separated ks p last (m - (c + 1)) z)) (sym (add-one e))
+      so_far ∙ ap (λ z. with_front (map view xs) (separated ks p last z n)) (left_over c m h)
+          ∙ ap (with_front (map view xs)) (separated_step ks p last (m - (c + 1)) n (view x) e r b)
+          ∙ push_front view xs x (separated ks p last (m - (c + 1)) (suc e))
+          ∙ ap (λ z. with_front (map view (xs ++ x ∷ [])) (separated ks p last (m - (c + 1)) z)) (sym (add-one e))
 
   pub separated_fails : (e : ReadError) → c < m → Fails e (p n) → Fails e all
   separated_fails errors.Memory h r = tt
@@ -128,7 +143,9 @@ module _ {X A : Type 0} (view : X → A) (ks : List Kind) (p : Reader A) (last :
 
   pub separated_ends : (x : X) (e i : ℕ) → c < m → p n ≡ Ok (view x, e) → sign_is s.Comma (slice_get ks e) ≡ false → sign_at ks last e ≡ Ok i → all ≡ Ok (map view (xs ++ x ∷ []), i)
   separated_ends x e i h r b t =
-      so_far ∙ ap (λ z. with_front (map view xs) (separated ks p last z n)) (left_over c m h) ∙ ap (with_front (map view xs)) (separated_close ks p last (m - (c + 1)) n (view x) e r b) ∙ rw t (ap (λ z. Ok (z, i)) (sym (map-push view xs x)))
+      so_far ∙ ap (λ z. with_front (map view xs) (separated ks p last z n)) (left_over c m h)
+          ∙ ap (with_front (map view xs)) (separated_close ks p last (m - (c + 1)) n (view x) e r b)
+          ∙ rw t (ap (λ z. Ok (z, i)) (sym (map-push view xs x)))
 
   pub separated_stops : (x : X) (e : ℕ) (f : ReadError) → c < m → p n ≡ Ok (view x, e) → sign_is s.Comma (slice_get ks e) ≡ false → Fails f (sign_at ks last e) → Fails f all
   separated_stops x e errors.Memory h r b t = tt

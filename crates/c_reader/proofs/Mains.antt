@@ -50,19 +50,26 @@ main_within ks n h = by_first (word_is wd.Int (slice_get ks n)) refl h
     by_first true i h = Rattle.std.proofs.lemmas.Option.slice_get_within ks n (kind.Word wd.Int) (word_found wd.Int (slice_get ks n) i)
     by_first false i h = cc
 
-tops_complete : (ks : List Kind) (ts : List TopTree) (n e : ℕ) → AreTops ts → length ts < length ks → Spans ks n (tops ts) e → begins_main ks e ≡ true → tops_at ks n ≡ after (first_deep n (tops ts)) (Ok (ts, e))
+tops_complete : (ks : List Kind) (ts : List TopTree) (n e : ℕ) → AreTops ts → length ts < length ks → Spans ks n (tops ts) e
+    → begins_main ks e ≡ true → tops_at ks n ≡ after (first_deep n (tops ts)) (Ok (ts, e))
 tops_complete ks ts n e o l s h =
-    until_complete ks 0 IsTop top Free Free (top_at ks) (top_exact ks) (begins_main ks) (λ j. Unit {0}) (λ a n e more o s. (no_main ks a n e more o s, tt)) (λ n h. tt) (λ a n g. tt) ts (length ks) n e l (all_tops ts o) (subst (λ z. Spans ks n z e) (tops_joined ts) s) h ∙ ap (λ z. after z (Ok (ts, e))) (sym (ap (first_deep n) (tops_joined ts)))
+    until_complete ks 0 IsTop top Free Free (top_at ks) (top_exact ks) (begins_main ks) (λ j. Unit {0})
+        (λ a n e more o s. (no_main ks a n e more o s, tt)) (λ n h. tt) (λ a n g. tt) ts (length ks) n e l (all_tops ts o)
+        (subst (λ z. Spans ks n z e) (tops_joined ts) s) h ∙ ap (λ z. after z (Ok (ts, e))) (sym (ap (first_deep n) (tops_joined ts)))
 
 -- `**argv` or `*argv[]`
-starred_exact : (ks : List Kind) → Exact ks 0 3 Any (λ v. word_mark 0 wd.Argv ∷ sign_mark 0 sg.LeftBracket ∷ sign_mark 0 sg.RightBracket ∷ []) Free Free (both (word ks wd.Argv) (both (sign ks sg.LeftBracket) (sign ks sg.RightBracket)))
+starred_exact : (ks : List Kind) → Exact ks 0 3 Any
+    (λ v. word_mark 0 wd.Argv ∷ sign_mark 0 sg.LeftBracket ∷ sign_mark 0 sg.RightBracket ∷ []) Free Free
+    (both (word ks wd.Argv) (both (sign ks sg.LeftBracket) (sign ks sg.RightBracket)))
 starred_exact ks = flat ks (word_exact ks 0 0 wd.Argv refl) (flat ks (sign_exact ks 0 0 sg.LeftBracket refl) (sign_exact ks 0 0 sg.RightBracket refl))
 
 argv_plain : (ks : List Kind) (n m e : ℕ) → sign_at ks sg.Star n ≡ Ok m → slice_get ks m ≡ Some (kind.Sign sg.Star) → word_at ks wd.Argv (suc m) ≡ Ok e → argv_at ks n ≡ Ok (false, e)
 unfolding argv_at
 argv_plain ks n m e a b c = rw (a, b, c) refl
 
-argv_bracket : (ks : List Kind) (n m e : ℕ) → sign_at ks sg.Star n ≡ Ok m → sign_is sg.Star (slice_get ks m) ≡ false → both (word ks wd.Argv) (both (sign ks sg.LeftBracket) (sign ks sg.RightBracket)) m ≡ Ok ((tt, (tt, tt)), e) → argv_at ks n ≡ Ok (true, e)
+argv_bracket : (ks : List Kind) (n m e : ℕ) → sign_at ks sg.Star n ≡ Ok m → sign_is sg.Star (slice_get ks m) ≡ false
+    → both (word ks wd.Argv) (both (sign ks sg.LeftBracket) (sign ks sg.RightBracket)) m ≡ Ok ((tt, (tt, tt)), e)
+    → argv_at ks n ≡ Ok (true, e)
 unfolding argv_at
 argv_bracket ks n m e a b c = rw (a, b, c) refl
 
@@ -79,7 +86,10 @@ argv_sound ks n y h =
     let g = sign_at_ok ks sg.Star n m.0 m.1 in
     by_test m.0 g.0 g.1 (sign_is sg.Star (slice_get ks m.0)) refl m.2
   where
-    by_test : (m : ℕ) → slice_get ks n ≡ Some (kind.Sign sg.Star) → m ≡ suc n → (t : Bool) → sign_is sg.Star (slice_get ks m) ≡ t → cond t (word_at ks wd.Argv (suc m) >>= λ e. Ok (false, e)) (both (word ks wd.Argv) (both (sign ks sg.LeftBracket) (sign ks sg.RightBracket)) m >>= λ e. Ok (true, e.1)) ≡ Ok y → Spans ks n (argv_marks y.0) y.1
+    by_test : (m : ℕ) → slice_get ks n ≡ Some (kind.Sign sg.Star) → m ≡ suc n → (t : Bool) → sign_is sg.Star (slice_get ks m) ≡ t
+        → cond t (word_at ks wd.Argv (suc m) >>= λ e. Ok (false, e))
+        (both (word ks wd.Argv) (both (sign ks sg.LeftBracket) (sign ks sg.RightBracket)) m >>= λ e. Ok (true, e.1)) ≡ Ok y
+        → Spans ks n (argv_marks y.0) y.1
     by_test m a i true t h =
         let e = bind_ok (word_at ks wd.Argv (suc m)) _ y h in
         let g = word_at_ok ks wd.Argv (suc m) e.0 e.1 in
@@ -97,7 +107,10 @@ unfolding argv_at
 argv_far ks n q h =
     far_bind (sign_at ks sg.Star n) _ q h (sign_far ks sg.Star n q) (λ m r g. by_test m (sign_is sg.Star (slice_get ks m)) g)
   where
-    by_test : (m : ℕ) (t : Bool) → ◌≡◌ {A = Result (Bool × ℕ) Fault} (cond t (word_at ks wd.Argv (suc m) >>= λ e. Ok (false, e)) (both (word ks wd.Argv) (both (sign ks sg.LeftBracket) (sign ks sg.RightBracket)) m >>= λ e. Ok (true, e.1))) (Err (TooDeep q)) → 64 ≤ q
+    by_test : (m : ℕ) (t : Bool) → ◌≡◌ {A = Result (Bool × ℕ) Fault}
+        (cond t (word_at ks wd.Argv (suc m) >>= λ e. Ok (false, e))
+        (both (word ks wd.Argv) (both (sign ks sg.LeftBracket) (sign ks sg.RightBracket)) m >>= λ e. Ok (true, e.1))) (Err (TooDeep q))
+        → 64 ≤ q
     by_test m true h = far_bind (word_at ks wd.Argv (suc m)) _ q h (word_far ks wd.Argv (suc m) q) (λ e r g. cc)
     by_test m false h = far_bind (both (word ks wd.Argv) (both (sign ks sg.LeftBracket) (sign ks sg.RightBracket)) m) _ q h ((starred_exact ks).far m q zero-le) (λ e r g. cc)
 
@@ -118,7 +131,8 @@ argv_exact ks = record {
 }
 
 -- `return` and its number, where they are there
-return_yes : (ks : List Kind) (n e : ℕ) (v : NumberLiteral) → slice_get ks n ≡ Some (kind.Word wd.Return) → number ks (suc n) ≡ Ok (v, suc (suc n)) → sign_at ks sg.Semicolon (suc (suc n)) ≡ Ok e → return_at ks n ≡ Ok (Some v, e)
+return_yes : (ks : List Kind) (n e : ℕ) (v : NumberLiteral) → slice_get ks n ≡ Some (kind.Word wd.Return)
+    → number ks (suc n) ≡ Ok (v, suc (suc n)) → sign_at ks sg.Semicolon (suc (suc n)) ≡ Ok e → return_at ks n ≡ Ok (Some v, e)
 unfolding return_at
 return_yes ks n e v a b c = rw (word_here wd.Return (slice_get ks n) a, b, c) refl
 
@@ -140,7 +154,9 @@ return_sound : (ks : List Kind) (n : ℕ) (y : Option NumberLiteral × ℕ) → 
 unfolding return_at
 return_sound ks n y h = by_test (word_is wd.Return (slice_get ks n)) refl h
   where
-    by_test : (t : Bool) → word_is wd.Return (slice_get ks n) ≡ t → cond t (number ks (suc n) >>= λ v. sign_at ks sg.Semicolon v.1 >>= λ e. Ok (Some v.0, e)) (Ok (None, n)) ≡ Ok y → Spans ks n (return_marks y.0) y.1
+    by_test : (t : Bool) → word_is wd.Return (slice_get ks n) ≡ t
+        → cond t (number ks (suc n) >>= λ v. sign_at ks sg.Semicolon v.1 >>= λ e. Ok (Some v.0, e)) (Ok (None, n)) ≡ Ok y
+        → Spans ks n (return_marks y.0) y.1
     by_test true t h =
         let v = bind_ok (number ks (suc n)) _ y h in
         let e = bind_ok (sign_at ks sg.Semicolon v.0.1) _ y v.2 in
@@ -157,8 +173,11 @@ return_far : (ks : List Kind) (n q : ℕ) → return_at ks n ≡ Err (TooDeep q)
 unfolding return_at
 return_far ks n q h = by_test (word_is wd.Return (slice_get ks n)) h
   where
-    by_test : (t : Bool) → ◌≡◌ {A = Result (Option NumberLiteral × ℕ) Fault} (cond t (number ks (suc n) >>= λ v. sign_at ks sg.Semicolon v.1 >>= λ e. Ok (Some v.0, e)) (Ok (None, n))) (Err (TooDeep q)) → 64 ≤ q
-    by_test true h = far_bind (number ks (suc n)) _ q h (λ g. absurd (number_near ks (suc n) q g)) (λ v r g. far_bind (sign_at ks sg.Semicolon v.1) _ q g (sign_far ks sg.Semicolon v.1 q) (λ e r g. cc))
+    by_test : (t : Bool) → ◌≡◌ {A = Result (Option NumberLiteral × ℕ) Fault}
+        (cond t (number ks (suc n) >>= λ v. sign_at ks sg.Semicolon v.1 >>= λ e. Ok (Some v.0, e)) (Ok (None, n))) (Err (TooDeep q))
+        → 64 ≤ q
+    by_test true h = far_bind (number ks (suc n)) _ q h (λ g. absurd (number_near ks (suc n) q g))
+        (λ v r g. far_bind (sign_at ks sg.Semicolon v.1) _ q g (sign_far ks sg.Semicolon v.1 q) (λ e r g. cc))
     by_test false h = cc
 
 return_deep : (v : Option NumberLiteral) (n : ℕ) → first_deep n (return_marks v) ≡ None
@@ -184,7 +203,9 @@ ExitAt ks n = slice_get ks n ≡ Some (kind.Word wd.OpExit)
 body_exact : (ks : List Kind) → Exact ks 1 0 (λ xs. AreHosts (host_trees xs)) (λ xs. hosts 1 (host_trees xs)) (λ xs e. ExitAt ks e) Free (hosts_in ks closing.Exit (host_at ks 64))
 body_exact ks = record {
   complete = λ xs n e o s h.
-      block_complete ks 0 0 64 refl zero-le (host_at ks 64) (host_exact ks 64 1 1 refl (omega arith)) closing.Exit (kind.Word wd.OpExit) (host_trees xs) n e o s h (word_here wd.OpExit (slice_get ks e) h) ∙ ap (λ (z : List HostTree). after (first_deep n (hosts 1 (host_trees xs))) (Ok (z, e))) (list_trees xs);
+      block_complete ks 0 0 64 refl zero-le (host_at ks 64) (host_exact ks 64 1 1 refl (omega arith)) closing.Exit (kind.Word wd.OpExit)
+          (host_trees xs) n e o s h (word_here wd.OpExit (slice_get ks e) h)
+          ∙ ap (λ (z : List HostTree). after (first_deep n (hosts 1 (host_trees xs))) (Ok (z, e))) (list_trees xs);
   sound = λ n y h.
       (let r = block_sound ks 0 0 64 refl zero-le (host_at ks 64) (host_exact ks 64 1 1 refl (omega arith)) closing.Exit n y h in
       record { valid = r.0; spans = r.1.0; shallow = r.1.1; behind = tt });
@@ -198,7 +219,8 @@ body_exact ks = record {
 -- `main` up to its statements, and behind them
 abbrev front_marks : ℕ → Bool → List Mark
 front_marks at b =
-    word_mark 0 wd.Int ∷ named_word 0 wd.Main at ∷ sign_mark 0 sg.LeftParen ∷ word_mark 0 wd.Int ∷ word_mark 0 wd.Argc ∷ sign_mark 0 sg.Comma ∷ word_mark 0 wd.Char ∷ (argv_marks b ++ (sign_mark 0 sg.RightParen ∷ sign_mark 0 sg.LeftBrace ∷ []))
+    word_mark 0 wd.Int ∷ named_word 0 wd.Main at ∷ sign_mark 0 sg.LeftParen ∷ word_mark 0 wd.Int ∷ word_mark 0 wd.Argc
+        ∷ sign_mark 0 sg.Comma ∷ word_mark 0 wd.Char ∷ (argv_marks b ++ (sign_mark 0 sg.RightParen ∷ sign_mark 0 sg.LeftBrace ∷ []))
 
 abbrev end_marks : ℕ → Option NumberLiteral → List Mark
 end_marks at v =
@@ -206,30 +228,56 @@ end_marks at v =
 
 front_exact : (ks : List Kind) → Exact ks 0 12 Any (λ v. front_marks v.1.0 v.1.1.1.1.1.1.1.0) Free Free (main_front ks)
 front_exact ks =
-    flat ks (word_exact ks 0 0 wd.Int refl) (flat ks (marked_exact ks 0 0 wd.Main refl) (flat ks (sign_exact ks 0 0 sg.LeftParen refl) (flat ks (word_exact ks 0 0 wd.Int refl) (flat ks (word_exact ks 0 0 wd.Argc refl) (flat ks (sign_exact ks 0 0 sg.Comma refl) (flat ks (word_exact ks 0 0 wd.Char refl) (flat ks (argv_exact ks) (flat ks (sign_exact ks 0 0 sg.RightParen refl) (sign_exact ks 0 0 sg.LeftBrace refl)))))))))
+    flat ks (word_exact ks 0 0 wd.Int refl)
+        (flat ks (marked_exact ks 0 0 wd.Main refl)
+        (flat ks (sign_exact ks 0 0 sg.LeftParen refl)
+        (flat ks (word_exact ks 0 0 wd.Int refl)
+        (flat ks (word_exact ks 0 0 wd.Argc refl)
+        (flat ks (sign_exact ks 0 0 sg.Comma refl)
+        (flat ks (word_exact ks 0 0 wd.Char refl)
+        (flat ks (argv_exact ks) (flat ks (sign_exact ks 0 0 sg.RightParen refl) (sign_exact ks 0 0 sg.LeftBrace refl)))))))))
 
 end_exact : (ks : List Kind) → Exact ks 0 5 Any (λ v. end_marks v.0 v.1.1.1.1.0) Free Free (main_end ks)
 end_exact ks =
-    flat ks (marked_exact ks 0 0 wd.OpExit refl) (flat ks (sign_exact ks 0 0 sg.LeftParen refl) (flat ks (sign_exact ks 0 0 sg.RightParen refl) (flat ks (sign_exact ks 0 0 sg.Semicolon refl) (needy_then ks (omega arith) (return_exact ks) (sign_exact ks 0 0 sg.RightBrace refl) (λ a b j e s. s.0)))))
+    flat ks (marked_exact ks 0 0 wd.OpExit refl)
+        (flat ks (sign_exact ks 0 0 sg.LeftParen refl)
+        (flat ks (sign_exact ks 0 0 sg.RightParen refl)
+        (flat ks (sign_exact ks 0 0 sg.Semicolon refl)
+        (needy_then ks (omega arith) (return_exact ks) (sign_exact ks 0 0 sg.RightBrace refl) (λ a b j e s. s.0)))))
 
 -- what stands behind the front
-tail_exact : (ks : List Kind) → Exact ks 1 5 (λ v. AreHosts (host_trees v.0)) (λ v. hosts 1 (host_trees v.0) ++ end_marks v.1.0 v.1.1.1.1.1.0) Free Free (both (hosts_in ks closing.Exit (host_at ks 64)) (main_end ks))
+tail_exact : (ks : List Kind) → Exact ks 1 5 (λ v. AreHosts (host_trees v.0))
+    (λ v. hosts 1 (host_trees v.0) ++ end_marks v.1.0 v.1.1.1.1.1.0) Free Free
+    (both (hosts_in ks closing.Exit (host_at ks 64)) (main_end ks))
 tail_exact ks = needy_then ks (omega arith) (body_exact ks) (end_exact ks) (λ a b j e s. s.0)
 
 abbrev row_marks : ℕ → Bool → HostTrees → ℕ → Option NumberLiteral → List Mark
 row_marks at b hs exit v = front_marks at b ++ (hosts 1 hs ++ end_marks exit v)
 
-row_exact : (ks : List Kind) → Exact ks 0 17 (λ v. AreHosts (host_trees v.1.0)) (λ v. row_marks v.0.1.0 v.0.1.1.1.1.1.1.1.0 (host_trees v.1.0) v.1.1.0 v.1.1.1.1.1.1.0) Free Free (both (main_front ks) (both (hosts_in ks closing.Exit (host_at ks 64)) (main_end ks)))
+row_exact : (ks : List Kind) → Exact ks 0 17 (λ v. AreHosts (host_trees v.1.0))
+    (λ v. row_marks v.0.1.0 v.0.1.1.1.1.1.1.1.0 (host_trees v.1.0) v.1.1.0 v.1.1.1.1.1.1.0) Free Free
+    (both (main_front ks) (both (hosts_in ks closing.Exit (host_at ks 64)) (main_end ks)))
 row_exact ks = then_exact ks (omega arith) (front_exact ks) (tail_exact ks)
 
 main_row : (m : MainTree) → main m ≡ row_marks m.at m.argv_has_brackets m.body m.exit_at m.returned
 main_row m =
-    ap (λ z. word_mark 0 wd.Int ∷ named_word 0 wd.Main m.at ∷ sign_mark 0 sg.LeftParen ∷ word_mark 0 wd.Int ∷ word_mark 0 wd.Argc ∷ sign_mark 0 sg.Comma ∷ word_mark 0 wd.Char ∷ z) (sym (append_assoc (argv_marks m.argv_has_brackets) (sign_mark 0 sg.RightParen ∷ sign_mark 0 sg.LeftBrace ∷ []) (hosts 1 m.body ++ end_marks m.exit_at m.returned)))
+    ap (λ z. word_mark 0 wd.Int ∷ named_word 0 wd.Main m.at ∷ sign_mark 0 sg.LeftParen ∷ word_mark 0 wd.Int ∷ word_mark 0 wd.Argc
+        ∷ sign_mark 0 sg.Comma ∷ word_mark 0 wd.Char ∷ z)
+        (sym (append_assoc (argv_marks m.argv_has_brackets) (sign_mark 0 sg.RightParen ∷ sign_mark 0 sg.LeftBrace ∷ [])
+        (hosts 1 m.body ++ end_marks m.exit_at m.returned)))
 
-main_is : (ks : List Kind) (m : MainTree) (xs : List HostTree) (n e : ℕ) → AreHosts (host_trees xs) → host_trees xs ≡ m.body → Spans ks n (row_marks m.at m.argv_has_brackets (host_trees xs) m.exit_at m.returned) e → main_at ks n ≡ after (first_deep n (row_marks m.at m.argv_has_brackets (host_trees xs) m.exit_at m.returned)) (Ok (record { at = m.at; argv_has_brackets = m.argv_has_brackets; body = host_trees xs; exit_at = m.exit_at; returned = m.returned }, e))
+main_is : (ks : List Kind) (m : MainTree) (xs : List HostTree) (n e : ℕ) → AreHosts (host_trees xs) → host_trees xs ≡ m.body
+    → Spans ks n (row_marks m.at m.argv_has_brackets (host_trees xs) m.exit_at m.returned) e
+    → main_at ks n ≡ after (first_deep n (row_marks m.at m.argv_has_brackets (host_trees xs) m.exit_at m.returned))
+    (Ok (record { at = m.at; argv_has_brackets = m.argv_has_brackets; body = host_trees xs; exit_at = m.exit_at; returned = m.returned },
+    e))
 unfolding main_at
 main_is ks m xs n e o i s =
-    made_complete _ (both (main_front ks) (both (hosts_in ks closing.Exit (host_at ks 64)) (main_end ks))) n e ((tt, (m.at, (tt, (tt, (tt, (tt, (tt, (m.argv_has_brackets, (tt, tt))))))))), (xs, (m.exit_at, (tt, (tt, (tt, (m.returned, tt))))))) (first_deep n (row_marks m.at m.argv_has_brackets (host_trees xs) m.exit_at m.returned)) ((row_exact ks).complete ((tt, (m.at, (tt, (tt, (tt, (tt, (tt, (m.argv_has_brackets, (tt, tt))))))))), (xs, (m.exit_at, (tt, (tt, (tt, (m.returned, tt))))))) n e o s tt)
+    made_complete _ (both (main_front ks) (both (hosts_in ks closing.Exit (host_at ks 64)) (main_end ks))) n e
+        ((tt, (m.at, (tt, (tt, (tt, (tt, (tt, (m.argv_has_brackets, (tt, tt))))))))), (xs, (m.exit_at, (tt, (tt, (tt, (m.returned, tt)))))))
+        (first_deep n (row_marks m.at m.argv_has_brackets (host_trees xs) m.exit_at m.returned))
+        ((row_exact ks).complete ((tt, (m.at, (tt, (tt, (tt, (tt, (tt, (m.argv_has_brackets, (tt, tt))))))))),
+        (xs, (m.exit_at, (tt, (tt, (tt, (m.returned, tt))))))) n e o s tt)
 
 main_complete : (ks : List Kind) (m : MainTree) (n e : ℕ) → AreHosts m.body → Spans ks n (main m) e → main_at ks n ≡ after (first_deep n (main m)) (Ok (m, e))
 main_complete ks m n e o s =
@@ -237,8 +285,12 @@ main_complete ks m n e o s =
     let same : host_trees xs ≡ m.body = trees_list m.body in
     let s' = subst (λ z. Spans ks n z e) (main_row m) s in
     let valid : AreHosts (host_trees xs) = subst AreHosts (sym same) o in
-    let rowed : Spans ks n (row_marks m.at m.argv_has_brackets (host_trees xs) m.exit_at m.returned) e = subst (λ z. Spans ks n (row_marks m.at m.argv_has_brackets z m.exit_at m.returned) e) (sym same) s' in
-    main_is ks m xs n e valid same rowed ∙ ap (λ (z : HostTrees). after (first_deep n (row_marks m.at m.argv_has_brackets z m.exit_at m.returned)) (Ok (record { at = m.at; argv_has_brackets = m.argv_has_brackets; body = z; exit_at = m.exit_at; returned = m.returned }, e))) same ∙ ap (λ z. after z (Ok (m, e))) (sym (ap (first_deep n) (main_row m)))
+    let rowed : Spans ks n (row_marks m.at m.argv_has_brackets (host_trees xs) m.exit_at m.returned) e =
+        subst (λ z. Spans ks n (row_marks m.at m.argv_has_brackets z m.exit_at m.returned) e) (sym same) s' in
+    main_is ks m xs n e valid same rowed ∙ ap
+        (λ (z : HostTrees). after (first_deep n (row_marks m.at m.argv_has_brackets z m.exit_at m.returned))
+        (Ok (record { at = m.at; argv_has_brackets = m.argv_has_brackets; body = z; exit_at = m.exit_at; returned = m.returned }, e))) same
+        ∙ ap (λ z. after z (Ok (m, e))) (sym (ap (first_deep n) (main_row m)))
 
 -- a `main` that was read
 record FoundMain (ks : List Kind) (n : ℕ) (m : MainTree) (e : ℕ) : Type 0 where
@@ -264,7 +316,9 @@ unfolding main_at
 main_far ks n q h = made_far ks _ (row_exact ks) n q zero-le h
 
 -- the whole source
-whole_is : (ks : List Kind) (places : List Pos) (ts : List TopTree) (m : MainTree) (j : ℕ) (a b : Option ℕ) → tops_at ks 0 ≡ after a (Ok (ts, j)) → main_at ks j ≡ after b (Ok (m, length ks)) → whole ks places ≡ after (or_else a b) (Ok (record { tops = ts; main = m; places = places }))
+whole_is : (ks : List Kind) (places : List Pos) (ts : List TopTree) (m : MainTree) (j : ℕ) (a b : Option ℕ)
+    → tops_at ks 0 ≡ after a (Ok (ts, j)) → main_at ks j ≡ after b (Ok (m, length ks))
+    → whole ks places ≡ after (or_else a b) (Ok (record { tops = ts; main = m; places = places }))
 unfolding whole
 whole_is ks places ts m j None None h g = rw (h, g, eq-eqb (length ks) (length ks) refl) refl
 whole_is ks places ts m j None (Some p) h g = rw (h, g) refl
@@ -302,7 +356,9 @@ whole_sound ks places p h =
     let b = main_sound ks t.0.1 m.0 m.1 in
     by_end t.0.0 t.0.1 m.0.0 m.0.1 a b (nat_eq m.0.1 (length ks)) refl m.2
   where
-    by_end : (ts : List TopTree) (j : ℕ) (m : MainTree) (e : ℕ) → Listed ks IsTop top 0 ts j → FoundMain ks j m e → (t : Bool) → nat_eq e (length ks) ≡ t → ◌≡◌ {A = Result ProgramTree Fault} (cond t (Ok (record { tops = ts; main = m; places = places })) (Err (Syntax e))) (Ok p) → FoundWhole ks places p
+    by_end : (ts : List TopTree) (j : ℕ) (m : MainTree) (e : ℕ) → Listed ks IsTop top 0 ts j → FoundMain ks j m e → (t : Bool)
+        → nat_eq e (length ks) ≡ t → ◌≡◌ {A = Result ProgramTree Fault}
+        (cond t (Ok (record { tops = ts; main = m; places = places })) (Err (Syntax e))) (Ok p) → FoundWhole ks places p
     by_end ts j m e a b true i h =
         let joined_ = tops_joined ts in
         let front : Spans ks 0 (tops ts) j = subst (λ z. Spans ks 0 z j) (sym joined_) a.spans in
@@ -323,8 +379,11 @@ whole_sound ks places p h =
 pub whole_far : (ks : List Kind) (places : List Pos) (q : ℕ) → whole ks places ≡ Err (TooDeep q) → 64 ≤ q
 unfolding whole
 whole_far ks places q h =
-    far_bind (tops_at ks 0) _ q h (until_far ks 0 1 IsTop top Free Free (top_at ks) (top_exact ks) (begins_main ks) (length ks) 0 q zero-le) (λ t r g. far_bind (main_at ks t.1) _ q g (main_far ks t.1 q) (λ m r g. by_end t m (nat_eq m.1 (length ks)) g))
+    far_bind (tops_at ks 0) _ q h (until_far ks 0 1 IsTop top Free Free (top_at ks) (top_exact ks) (begins_main ks) (length ks) 0 q zero-le)
+        (λ t r g. far_bind (main_at ks t.1) _ q g (main_far ks t.1 q) (λ m r g. by_end t m (nat_eq m.1 (length ks)) g))
   where
-    by_end : (t : List TopTree × ℕ) (m : MainTree × ℕ) (b : Bool) → ◌≡◌ {A = Result ProgramTree Fault} (cond b (Ok (record { tops = t.0; main = m.0; places = places })) (Err (Syntax m.1))) (Err (TooDeep q)) → 64 ≤ q
+    by_end : (t : List TopTree × ℕ) (m : MainTree × ℕ) (b : Bool)
+        → ◌≡◌ {A = Result ProgramTree Fault} (cond b (Ok (record { tops = t.0; main = m.0; places = places })) (Err (Syntax m.1)))
+        (Err (TooDeep q)) → 64 ≤ q
     by_end t m true h = cc
     by_end t m false h = cc

@@ -32,7 +32,11 @@ use Rattle.c_reader.proofs.Far.{far_bind}
 use Rattle.c_reader.proofs.Exactness.{Exact, Found, Any, Free, ident_is, ident_ok, ident_near, number_is, number_ok, number_near, word_found, mark_shallow}
 
 -- a reader of one token
-pub one_exact : (ks : List Kind) {A : Type 0} (from : ℕ) (mark_of : A → Mark) (p : Reader A) → ((a : A) → nat_lt 64 (mark_of a).level ≡ false) → ((a : A) (n : ℕ) → slice_get ks n ≡ Some (mark_of a).kind → Keeps n (mark_of a).number → p n ≡ Ok (a, suc n)) → ((n : ℕ) (y : A × ℕ) → p n ≡ Ok y → (slice_get ks n ≡ Some (mark_of y.0).kind) × (Keeps n (mark_of y.0).number × (suc n ≡ y.1))) → ((n q : ℕ) → p n ≡ Err (TooDeep q) → ⊥) → Exact ks from 1 Any (λ a. mark_of a ∷ []) Free Free p
+pub one_exact : (ks : List Kind) {A : Type 0} (from : ℕ) (mark_of : A → Mark) (p : Reader A)
+    → ((a : A) → nat_lt 64 (mark_of a).level ≡ false) →
+    ((a : A) (n : ℕ) → slice_get ks n ≡ Some (mark_of a).kind → Keeps n (mark_of a).number → p n ≡ Ok (a, suc n))
+    → ((n : ℕ) (y : A × ℕ) → p n ≡ Ok y → (slice_get ks n ≡ Some (mark_of y.0).kind) × (Keeps n (mark_of y.0).number × (suc n ≡ y.1)))
+    → ((n q : ℕ) → p n ≡ Err (TooDeep q) → ⊥) → Exact ks from 1 Any (λ a. mark_of a ∷ []) Free Free p
 one_exact ks from mark_of p fits is ok far = record {
   complete = λ a n e o s h. is a n s.0 s.1 ∙ ap (λ (z : ℕ). Ok (a, z)) s.2 ∙ ap (λ z. after z (Ok (a, e))) (sym (mark_shallow n (mark_of a) (fits a)));
   sound = λ n y h.
@@ -99,11 +103,14 @@ assign_near ks n q h = by_kind (slice_get ks n) h
 
 pub assign_exact : (ks : List Kind) (from k : ℕ) → nat_lt 64 k ≡ false → Exact ks from 1 Any (λ (v : PlacedOp). named_sign k (assign_sign_of v.0) v.1 ∷ []) Free Free (placed_assign ks)
 assign_exact ks from k fits =
-    one_exact ks from (λ (v : PlacedOp). named_sign k (assign_sign_of v.0) v.1) (placed_assign ks) (λ v. fits) (λ v n h a. rw (assign_is ks v.0 n h) (ap (λ (z : ℕ). Ok ((v.0, z), suc n)) (sym a))) (λ n y h.
+    one_exact ks from (λ (v : PlacedOp). named_sign k (assign_sign_of v.0) v.1) (placed_assign ks) (λ v. fits)
+        (λ v n h a. rw (assign_is ks v.0 n h) (ap (λ (z : ℕ). Ok ((v.0, z), suc n)) (sym a))) (λ n y h.
     (let r = bind_ok (assign_at ks n) _ y h in
     let q = assign_ok ks n r.0 r.1 in
     let same = ok_one ((r.0.0, n), r.0.1) y r.2 in
-    (q.0 ∙ ap (λ (z : PlacedOp × ℕ). Some (kind.Sign (assign_sign_of z.0.0))) same, (sym (ap (λ (z : PlacedOp × ℕ). z.0.1) same), q.1 ∙ ap (λ (z : PlacedOp × ℕ). z.1) same)))) (λ n q h. near n q (assign_at ks n) (assign_near ks n q) h)
+    (q.0 ∙ ap (λ (z : PlacedOp × ℕ). Some (kind.Sign (assign_sign_of z.0.0))) same,
+        (sym (ap (λ (z : PlacedOp × ℕ). z.0.1) same), q.1 ∙ ap (λ (z : PlacedOp × ℕ). z.1) same))))
+        (λ n q h. near n q (assign_at ks n) (assign_near ks n q) h)
   where
     near : (n q : ℕ) (r : Result (AssignOp × ℕ) Fault) → (r ≡ Err (TooDeep q) → ⊥) → ◌≡◌ {A = Result (PlacedOp × ℕ) Fault} (r >>= λ o. Ok ((o.0, n), o.1)) (Err (TooDeep q)) → ⊥
     near n q (Ok x) f h = cc
@@ -157,11 +164,14 @@ access_near ks n q h = by_kind (slice_get ks n) h
 
 pub access_exact : (ks : List Kind) (from k : ℕ) → nat_lt 64 k ≡ false → Exact ks from 1 Any (λ (v : AccessWord × ℕ). named_word k (access_word_of v.0) v.1 ∷ []) Free Free (placed_access ks)
 access_exact ks from k fits =
-    one_exact ks from (λ (v : AccessWord × ℕ). named_word k (access_word_of v.0) v.1) (placed_access ks) (λ v. fits) (λ v n h a. rw (access_is ks v.0 n h) (ap (λ (z : ℕ). Ok ((v.0, z), suc n)) (sym a))) (λ n y h.
+    one_exact ks from (λ (v : AccessWord × ℕ). named_word k (access_word_of v.0) v.1) (placed_access ks) (λ v. fits)
+        (λ v n h a. rw (access_is ks v.0 n h) (ap (λ (z : ℕ). Ok ((v.0, z), suc n)) (sym a))) (λ n y h.
     (let r = bind_ok (access_at ks n) _ y h in
     let q = access_ok ks n r.0 r.1 in
     let same = ok_one ((r.0.0, n), r.0.1) y r.2 in
-    (q.0 ∙ ap (λ (z : (AccessWord × ℕ) × ℕ). Some (kind.Word (access_word_of z.0.0))) same, (sym (ap (λ (z : (AccessWord × ℕ) × ℕ). z.0.1) same), q.1 ∙ ap (λ (z : (AccessWord × ℕ) × ℕ). z.1) same)))) (λ n q h. near n q (access_at ks n) (access_near ks n q) h)
+    (q.0 ∙ ap (λ (z : (AccessWord × ℕ) × ℕ). Some (kind.Word (access_word_of z.0.0))) same,
+        (sym (ap (λ (z : (AccessWord × ℕ) × ℕ). z.0.1) same), q.1 ∙ ap (λ (z : (AccessWord × ℕ) × ℕ). z.1) same))))
+        (λ n q h. near n q (access_at ks n) (access_near ks n q) h)
   where
     near : (n q : ℕ) (r : Result (AccessWord × ℕ) Fault) → (r ≡ Err (TooDeep q) → ⊥) → ◌≡◌ {A = Result ((AccessWord × ℕ) × ℕ) Fault} (r >>= λ o. Ok ((o.0, n), o.1)) (Err (TooDeep q)) → ⊥
     near n q (Ok x) f h = cc
@@ -172,13 +182,16 @@ pub made_complete : {A B : Type 0} (f : A → B) (p : Reader A) (n e : ℕ) (a :
 made_complete f p n e a None h = rw h refl
 made_complete f p n e a (Some z) h = rw h refl
 
-pub made_sound : (ks : List Kind) {A B : Type 0} {from size : ℕ} {ok : A → Type 0} {marks : A → List Mark} {needs gives : A → ℕ → Type 0} {p : Reader A} (f : A → B) → Exact ks from size ok marks needs gives p → (n : ℕ) (y : B × ℕ) → made f p n ≡ Ok y → (a : A) × (f a ≡ y.0) × Found ks ok marks gives n a y.1
+pub made_sound : (ks : List Kind) {A B : Type 0} {from size : ℕ} {ok : A → Type 0} {marks : A → List Mark} {needs gives : A → ℕ → Type 0}
+    {p : Reader A} (f : A → B) → Exact ks from size ok marks needs gives p → (n : ℕ) (y : B × ℕ) → made f p n ≡ Ok y → (a : A) × (f a ≡ y.0)
+    × Found ks ok marks gives n a y.1
 made_sound ks {ok = ok} {marks = marks} {gives = gives} {p = p} f x n y h =
     let r = bind_ok (p n) _ y h in
     let same = ok_one (f r.0.0, r.0.1) y r.2 in
     (r.0.0, ap (λ z. z.0) same, subst (λ e. Found ks ok marks gives n r.0.0 e) (ap (λ z. z.1) same) (x.sound n r.0 r.1))
 
-pub made_far : (ks : List Kind) {A B : Type 0} {from size : ℕ} {ok : A → Type 0} {marks : A → List Mark} {needs gives : A → ℕ → Type 0} {p : Reader A} (f : A → B) → Exact ks from size ok marks needs gives p → (n q : ℕ) → from ≤ n → made f p n ≡ Err (TooDeep q) → 64 ≤ q
+pub made_far : (ks : List Kind) {A B : Type 0} {from size : ℕ} {ok : A → Type 0} {marks : A → List Mark} {needs gives : A → ℕ → Type 0}
+    {p : Reader A} (f : A → B) → Exact ks from size ok marks needs gives p → (n q : ℕ) → from ≤ n → made f p n ≡ Err (TooDeep q) → 64 ≤ q
 made_far ks {p = p} f x n q l h = far_bind (p n) _ q h (x.far n q l) (λ a r g. cc)
 
 -- a map, or none
@@ -191,9 +204,12 @@ pub via_ok : (ks : List Kind) (k n : ℕ) (y : ArgVia × ℕ) → via_at ks n �
 unfolding via_at
 via_ok ks k n y h = by_test (word_is wd.OpId (slice_get ks n)) refl h
   where
-    by_test : (t : Bool) → word_is wd.OpId (slice_get ks n) ≡ t → cond t (Ok (via.Identity n, suc n)) (ident ks n >>= λ x. Ok (via.Map x.0, x.1)) ≡ Ok y → (slice_get ks n ≡ Some (via_mark k y.0).kind) × (Keeps n (via_mark k y.0).number × (suc n ≡ y.1))
+    by_test : (t : Bool) → word_is wd.OpId (slice_get ks n) ≡ t
+        → cond t (Ok (via.Identity n, suc n)) (ident ks n >>= λ x. Ok (via.Map x.0, x.1)) ≡ Ok y
+        → (slice_get ks n ≡ Some (via_mark k y.0).kind) × (Keeps n (via_mark k y.0).number × (suc n ≡ y.1))
     by_test true t h =
-        subst (λ (w : ArgVia × ℕ). (slice_get ks n ≡ Some (via_mark k w.0).kind) × (Keeps n (via_mark k w.0).number × (suc n ≡ w.1))) (ok_one (via.Identity n, suc n) y h) (word_found wd.OpId (slice_get ks n) t, (refl, refl))
+        subst (λ (w : ArgVia × ℕ). (slice_get ks n ≡ Some (via_mark k w.0).kind) × (Keeps n (via_mark k w.0).number × (suc n ≡ w.1)))
+            (ok_one (via.Identity n, suc n) y h) (word_found wd.OpId (slice_get ks n) t, (refl, refl))
     by_test false t h =
         let r = bind_ok (ident ks n) _ y h in
         let q = ident_ok ks n r.0 r.1 in
@@ -220,18 +236,28 @@ via_exact ks from k fits =
     one_exact ks from (via_mark k) (via_at ks) (λ a. via_level k a fits) (via_is ks k) (via_ok ks k) (via_near ks)
 
 -- an index, behind `-` or not
-pub index_is : (ks : List Kind) (k : ℕ) (t : Bool) (at n e : ℕ) (v : _) → nat_lt 64 k ≡ false → Spans ks n (arg_index k (record { is_negative = t; at = at; value = v })) e → index_at ks n ≡ after (first_deep n (arg_index k (record { is_negative = t; at = at; value = v }))) (Ok (record { is_negative = t; at = at; value = v }, e))
+pub index_is : (ks : List Kind) (k : ℕ) (t : Bool) (at n e : ℕ) (v : _) → nat_lt 64 k ≡ false
+    → Spans ks n (arg_index k (record { is_negative = t; at = at; value = v })) e
+    → index_at ks n ≡ after (first_deep n (arg_index k (record { is_negative = t; at = at; value = v })))
+    (Ok (record { is_negative = t; at = at; value = v }, e))
 unfolding index_at
 index_is ks k true at n e v fits s =
-    rw (s.0, number_is ks (record { value = v; at = suc n }) (suc n) s.2.0 refl, fits) (ap (λ (z : ℕ). Ok (record { is_negative = true; at = z; value = v }, suc (suc n))) (sym s.1) ∙ ap (λ (z : ℕ). Ok (record { is_negative = true; at = at; value = v }, z)) s.2.2)
+    rw (s.0, number_is ks (record { value = v; at = suc n }) (suc n) s.2.0 refl, fits)
+        (ap (λ (z : ℕ). Ok (record { is_negative = true; at = z; value = v }, suc (suc n))) (sym s.1)
+        ∙ ap (λ (z : ℕ). Ok (record { is_negative = true; at = at; value = v }, z)) s.2.2)
 index_is ks k false at n e v fits s =
-    rw (s.0, number_is ks (record { value = v; at = n }) n s.0 refl, fits) (ap (λ (z : ℕ). Ok (record { is_negative = false; at = z; value = v }, suc n)) (sym s.1) ∙ ap (λ (z : ℕ). Ok (record { is_negative = false; at = at; value = v }, z)) s.2)
+    rw (s.0, number_is ks (record { value = v; at = n }) n s.0 refl, fits)
+        (ap (λ (z : ℕ). Ok (record { is_negative = false; at = z; value = v }, suc n)) (sym s.1)
+        ∙ ap (λ (z : ℕ). Ok (record { is_negative = false; at = at; value = v }, z)) s.2)
 
 pub index_ok : (ks : List Kind) (k n : ℕ) (y : ArgIndex × ℕ) → nat_lt 64 k ≡ false → index_at ks n ≡ Ok y → Found ks Any (arg_index k) Free n y.0 y.1
 unfolding index_at
 index_ok ks k n y fits h = by_test (sign_is sg.Minus (slice_get ks n)) refl h
   where
-    by_test : (t : Bool) → sign_is sg.Minus (slice_get ks n) ≡ t → cond t (number ks (suc n) >>= λ v. Ok (record { is_negative = true; at = n; value = v.0.value }, v.1)) (number ks n >>= λ v. Ok (record { is_negative = false; at = n; value = v.0.value }, v.1)) ≡ Ok y → Found ks Any (arg_index k) Free n y.0 y.1
+    by_test : (t : Bool) → sign_is sg.Minus (slice_get ks n) ≡ t
+        → cond t (number ks (suc n) >>= λ v. Ok (record { is_negative = true; at = n; value = v.0.value }, v.1))
+        (number ks n >>= λ v. Ok (record { is_negative = false; at = n; value = v.0.value }, v.1)) ≡ Ok y
+        → Found ks Any (arg_index k) Free n y.0 y.1
     by_test true t h =
         let r = bind_ok (number ks (suc n)) _ y h in
         let q = number_ok ks (suc n) r.0 r.1 in
@@ -257,7 +283,9 @@ pub index_near : (ks : List Kind) (n q : ℕ) → index_at ks n ≡ Err (TooDeep
 unfolding index_at
 index_near ks n q h = by_test (sign_is sg.Minus (slice_get ks n)) h
   where
-    by_test : (t : Bool) → ◌≡◌ {A = Result (ArgIndex × ℕ) Fault} (cond t (number ks (suc n) >>= λ v. Ok (record { is_negative = true; at = n; value = v.0.value }, v.1)) (number ks n >>= λ v. Ok (record { is_negative = false; at = n; value = v.0.value }, v.1))) (Err (TooDeep q)) → ⊥
+    by_test : (t : Bool) → ◌≡◌ {A = Result (ArgIndex × ℕ) Fault}
+        (cond t (number ks (suc n) >>= λ v. Ok (record { is_negative = true; at = n; value = v.0.value }, v.1))
+        (number ks n >>= λ v. Ok (record { is_negative = false; at = n; value = v.0.value }, v.1))) (Err (TooDeep q)) → ⊥
     by_test true h = near_bind (number ks (suc n)) _ q (number_near ks (suc n) q) (λ a g. cc) h
     by_test false h = near_bind (number ks n) _ q (number_near ks n q) (λ a g. cc) h
 
@@ -276,18 +304,23 @@ index_exact ks from k fits = record {
 }
 
 -- a variable, behind `&` or not
-pub global_is : (ks : List Kind) (k : ℕ) (o : Option ℕ) (x : Ident) (n e : ℕ) → nat_lt 64 k ≡ false → Spans ks n (glob k (record { ampersand = o; name = x })) e → global_at ks n ≡ after (first_deep n (glob k (record { ampersand = o; name = x }))) (Ok (record { ampersand = o; name = x }, e))
+pub global_is : (ks : List Kind) (k : ℕ) (o : Option ℕ) (x : Ident) (n e : ℕ) → nat_lt 64 k ≡ false
+    → Spans ks n (glob k (record { ampersand = o; name = x })) e
+    → global_at ks n ≡ after (first_deep n (glob k (record { ampersand = o; name = x }))) (Ok (record { ampersand = o; name = x }, e))
 unfolding global_at
 global_is ks k None x n e fits s =
     rw (s.0, ident_is ks x n s.0 s.1, fits) (ap (λ (z : ℕ). Ok (record { ampersand = None; name = x }, z)) s.2)
 global_is ks k (Some at) x n e fits s =
-    rw (s.0, ident_is ks x (suc n) s.2.0 s.2.1, fits) (ap (λ (z : ℕ). Ok (record { ampersand = Some z; name = x }, suc (suc n))) (sym s.1) ∙ ap (λ (z : ℕ). Ok (record { ampersand = Some at; name = x }, z)) s.2.2)
+    rw (s.0, ident_is ks x (suc n) s.2.0 s.2.1, fits) (ap (λ (z : ℕ). Ok (record { ampersand = Some z; name = x }, suc (suc n))) (sym s.1)
+        ∙ ap (λ (z : ℕ). Ok (record { ampersand = Some at; name = x }, z)) s.2.2)
 
 pub global_ok : (ks : List Kind) (k n : ℕ) (y : GlobalName × ℕ) → nat_lt 64 k ≡ false → global_at ks n ≡ Ok y → Found ks Any (glob k) Free n y.0 y.1
 unfolding global_at
 global_ok ks k n y fits h = by_test (sign_is sg.And (slice_get ks n)) refl h
   where
-    by_test : (t : Bool) → sign_is sg.And (slice_get ks n) ≡ t → cond t (ident ks (suc n) >>= λ x. Ok (record { ampersand = Some n; name = x.0 }, x.1)) (ident ks n >>= λ x. Ok (record { ampersand = None; name = x.0 }, x.1)) ≡ Ok y → Found ks Any (glob k) Free n y.0 y.1
+    by_test : (t : Bool) → sign_is sg.And (slice_get ks n) ≡ t
+        → cond t (ident ks (suc n) >>= λ x. Ok (record { ampersand = Some n; name = x.0 }, x.1))
+        (ident ks n >>= λ x. Ok (record { ampersand = None; name = x.0 }, x.1)) ≡ Ok y → Found ks Any (glob k) Free n y.0 y.1
     by_test true t h =
         let r = bind_ok (ident ks (suc n)) _ y h in
         let q = ident_ok ks (suc n) r.0 r.1 in
@@ -313,7 +346,9 @@ pub global_near : (ks : List Kind) (n q : ℕ) → global_at ks n ≡ Err (TooDe
 unfolding global_at
 global_near ks n q h = by_test (sign_is sg.And (slice_get ks n)) h
   where
-    by_test : (t : Bool) → ◌≡◌ {A = Result (GlobalName × ℕ) Fault} (cond t (ident ks (suc n) >>= λ x. Ok (record { ampersand = Some n; name = x.0 }, x.1)) (ident ks n >>= λ x. Ok (record { ampersand = None; name = x.0 }, x.1))) (Err (TooDeep q)) → ⊥
+    by_test : (t : Bool) → ◌≡◌ {A = Result (GlobalName × ℕ) Fault}
+        (cond t (ident ks (suc n) >>= λ x. Ok (record { ampersand = Some n; name = x.0 }, x.1))
+        (ident ks n >>= λ x. Ok (record { ampersand = None; name = x.0 }, x.1))) (Err (TooDeep q)) → ⊥
     by_test true h = near_bind (ident ks (suc n)) _ q (ident_near ks (suc n) q) (λ a g. cc) h
     by_test false h = near_bind (ident ks n) _ q (ident_near ks n q) (λ a g. cc) h
 

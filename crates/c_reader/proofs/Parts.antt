@@ -32,10 +32,12 @@ list_trees [] = refl
 list_trees (x ∷ xs) = ap (λ z. x ∷ z) (list_trees xs)
 
 -- the statements of a kernel's body
-body_exact : (ks : List Kind) → Exact ks 1 0 (λ xs. AreStmts (stmt_trees xs)) (λ xs. stmts 1 (stmt_trees xs)) (λ xs e. slice_get ks e ≡ Some (kind.Sign sg.RightBrace)) Free (stmts_in ks (stmt_at ks 64))
+body_exact : (ks : List Kind) → Exact ks 1 0 (λ xs. AreStmts (stmt_trees xs)) (λ xs. stmts 1 (stmt_trees xs))
+    (λ xs e. slice_get ks e ≡ Some (kind.Sign sg.RightBrace)) Free (stmts_in ks (stmt_at ks 64))
 body_exact ks = record {
   complete = λ xs n e o s h.
-      block_complete ks 0 0 64 refl zero-le (stmt_at ks 64) (stmt_exact ks 64 1 1 refl (omega arith)) (stmt_trees xs) n e o s h ∙ ap (λ (z : List StmtTree). after (first_deep n (stmts 1 (stmt_trees xs))) (Ok (z, e))) (list_trees xs);
+      block_complete ks 0 0 64 refl zero-le (stmt_at ks 64) (stmt_exact ks 64 1 1 refl (omega arith)) (stmt_trees xs) n e o s h
+          ∙ ap (λ (z : List StmtTree). after (first_deep n (stmts 1 (stmt_trees xs))) (Ok (z, e))) (list_trees xs);
   sound = λ n y h.
       (let r = block_sound ks 0 0 64 refl zero-le (stmt_at ks 64) (stmt_exact ks 64 1 1 refl (omega arith)) n y h in
       record { valid = r.0; spans = r.1.0; shallow = r.1.1; behind = tt });
@@ -50,13 +52,21 @@ body_exact ks = record {
 abbrev row_marks : Ident → List Param → StmtTrees → List Mark
 row_marks x ps ss = word_mark 0 wd.Void ∷ ident_mark 0 x ∷ sign_mark 0 sg.LeftParen ∷ (params_row ps ++ (sign_mark 0 sg.LeftBrace ∷ (stmts 1 ss ++ sign_mark 0 sg.RightBrace ∷ [])))
 
-braced_exact : (ks : List Kind) → Exact ks 0 2 (λ v. AreStmts (stmt_trees v.1.0)) (λ v. sign_mark 0 sg.LeftBrace ∷ (stmts 1 (stmt_trees v.1.0) ++ sign_mark 0 sg.RightBrace ∷ [])) Free Free (both (sign ks sg.LeftBrace) (both (stmts_in ks (stmt_at ks 64)) (sign ks sg.RightBrace)))
+braced_exact : (ks : List Kind) → Exact ks 0 2 (λ v. AreStmts (stmt_trees v.1.0))
+    (λ v. sign_mark 0 sg.LeftBrace ∷ (stmts 1 (stmt_trees v.1.0) ++ sign_mark 0 sg.RightBrace ∷ [])) Free Free
+    (both (sign ks sg.LeftBrace) (both (stmts_in ks (stmt_at ks 64)) (sign ks sg.RightBrace)))
 braced_exact ks =
     then_exact ks (omega arith) (sign_exact ks 0 0 sg.LeftBrace refl) (needy_then ks (omega arith) (body_exact ks) (sign_exact ks 0 0 sg.RightBrace refl) (λ a b j e s. s.0))
 
 row_exact : (ks : List Kind) → Exact ks 0 5 (λ v. (v.1.1.1.0 ≢ []) × AreStmts (stmt_trees v.1.1.1.1.1.0)) (λ v. row_marks v.1.0 v.1.1.1.0 (stmt_trees v.1.1.1.1.1.0)) Free Free (kernel_row ks)
 row_exact ks =
-    then_exact ks (omega arith) (word_exact ks 0 0 wd.Void refl) (then_exact ks (omega arith) (ident_exact ks 0 0 refl) (then_exact ks (omega arith) (sign_exact ks 0 0 sg.LeftParen refl) (both_exact ks 0 0 2 (λ ps. ps ≢ []) (λ v. AreStmts (stmt_trees v.1.0)) params_row (λ v. sign_mark 0 sg.LeftBrace ∷ (stmts 1 (stmt_trees v.1.0) ++ sign_mark 0 sg.RightBrace ∷ [])) Free Free Free Free (params_at ks) (both (sign ks sg.LeftBrace) (both (stmts_in ks (stmt_at ks 64)) (sign ks sg.RightBrace))) (params_exact ks) (braced_exact ks) (λ a b j e o s. tt))))
+    then_exact ks (omega arith) (word_exact ks 0 0 wd.Void refl)
+        (then_exact ks (omega arith) (ident_exact ks 0 0 refl)
+        (then_exact ks (omega arith) (sign_exact ks 0 0 sg.LeftParen refl)
+        (both_exact ks 0 0 2 (λ ps. ps ≢ []) (λ v. AreStmts (stmt_trees v.1.0)) params_row
+        (λ v. sign_mark 0 sg.LeftBrace ∷ (stmts 1 (stmt_trees v.1.0) ++ sign_mark 0 sg.RightBrace ∷ [])) Free Free Free Free (params_at ks)
+        (both (sign ks sg.LeftBrace) (both (stmts_in ks (stmt_at ks 64)) (sign ks sg.RightBrace))) (params_exact ks) (braced_exact ks)
+        (λ a b j e o s. tt))))
 
 -- a kernel as its words and its row
 abbrev parts_of : Bool → Bool → Ident → List Param → StmtTrees → List Mark
@@ -64,13 +74,21 @@ parts_of t i x ps ss = word_if t 0 wd.Static ++ (word_if i 0 wd.Inline ++ row_ma
 
 kernel_parts : (f : KernelTree) → kernel f ≡ parts_of f.is_static f.is_inline f.name f.params f.body
 kernel_parts f =
-    ap (λ z. word_if f.is_static 0 wd.Static ++ (word_if f.is_inline 0 wd.Inline ++ word_mark 0 wd.Void ∷ ident_mark 0 f.name ∷ sign_mark 0 sg.LeftParen ∷ z)) (sym (append_assoc (commas 0 (params f.params)) (sign_mark 0 sg.RightParen ∷ []) (sign_mark 0 sg.LeftBrace ∷ (stmts 1 f.body ++ sign_mark 0 sg.RightBrace ∷ []))))
+    ap (λ z. word_if f.is_static 0 wd.Static ++
+        (word_if f.is_inline 0 wd.Inline ++ word_mark 0 wd.Void ∷ ident_mark 0 f.name ∷ sign_mark 0 sg.LeftParen ∷ z))
+        (sym (append_assoc (commas 0 (params f.params)) (sign_mark 0 sg.RightParen ∷ [])
+        (sign_mark 0 sg.LeftBrace ∷ (stmts 1 f.body ++ sign_mark 0 sg.RightBrace ∷ []))))
 
-parts_deep : (ks : List Kind) (t i : Bool) (n j m : ℕ) (row : List Mark) → Spans ks n (word_if t 0 wd.Static) j → Spans ks j (word_if i 0 wd.Inline) m → first_deep n (word_if t 0 wd.Static ++ (word_if i 0 wd.Inline ++ row)) ≡ first_deep m row
+parts_deep : (ks : List Kind) (t i : Bool) (n j m : ℕ) (row : List Mark) → Spans ks n (word_if t 0 wd.Static) j
+    → Spans ks j (word_if i 0 wd.Inline) m → first_deep n (word_if t 0 wd.Static ++ (word_if i 0 wd.Inline ++ row)) ≡ first_deep m row
 parts_deep ks t i n j m row a b =
-    deep_split ks n (word_if t 0 wd.Static) (word_if i 0 wd.Inline ++ row) j a ∙ rw (word_if_deep t n wd.Static) (deep_split ks j (word_if i 0 wd.Inline) row m b ∙ rw (word_if_deep i j wd.Inline) refl)
+    deep_split ks n (word_if t 0 wd.Static) (word_if i 0 wd.Inline ++ row) j a
+        ∙ rw (word_if_deep t n wd.Static) (deep_split ks j (word_if i 0 wd.Inline) row m b ∙ rw (word_if_deep i j wd.Inline) refl)
 
-kernel_is : (ks : List Kind) (n j m e : ℕ) (t i : Bool) (x : Ident) (ps : List Param) (ss : List StmtTree) (o : Option ℕ) → skipped ks wd.Static n ≡ (t, j) → skipped ks wd.Inline j ≡ (i, m) → kernel_row ks m ≡ after o (Ok ((tt, (x, (tt, (ps, (tt, (ss, tt)))))), e)) → kernel_at ks n ≡ after o (Ok (record { is_static = t; is_inline = i; name = x; params = ps; body = stmt_trees ss }, e))
+kernel_is : (ks : List Kind) (n j m e : ℕ) (t i : Bool) (x : Ident) (ps : List Param) (ss : List StmtTree) (o : Option ℕ)
+    → skipped ks wd.Static n ≡ (t, j) → skipped ks wd.Inline j ≡ (i, m)
+    → kernel_row ks m ≡ after o (Ok ((tt, (x, (tt, (ps, (tt, (ss, tt)))))), e))
+    → kernel_at ks n ≡ after o (Ok (record { is_static = t; is_inline = i; name = x; params = ps; body = stmt_trees ss }, e))
 unfolding kernel_at
 kernel_is ks n j m e t i x ps ss None a b r = ap (kernel_after ks) a ∙ ap (kernel_behind ks t) b ∙ rw r refl
 kernel_is ks n j m e t i x ps ss (Some p) a b r = ap (kernel_after ks) a ∙ ap (kernel_behind ks t) b ∙ rw r refl
@@ -86,9 +104,16 @@ kernel_complete ks f n e o s =
     let rowed : Spans ks b.0 (row_marks f.name f.params (stmt_trees ss)) e = subst (λ z. Spans ks b.0 (row_marks f.name f.params z) e) (sym same) b.2 in
     let valid : AreStmts (stmt_trees ss) = subst AreStmts (sym same) o.1 in
     let r = (row_exact ks).complete (tt, (f.name, (tt, (f.params, (tt, (ss, tt)))))) b.0 e (o.0, valid) rowed tt in
-    kernel_is ks n a.0 b.0 e f.is_static f.is_inline f.name f.params ss (first_deep b.0 (row_marks f.name f.params (stmt_trees ss))) (skip_is ks wd.Static f.is_static n a.0 [] e a.1 (λ i. not_static f.is_inline i a.0 a.1 a.2)) (skip_is ks wd.Inline f.is_inline a.0 b.0 [] e b.1 (λ i. not_inline i a.0 b.0 b.1 b.2)) r ∙ ap (λ (z : StmtTrees). after (first_deep b.0 (row_marks f.name f.params z)) (Ok (record { is_static = f.is_static; is_inline = f.is_inline; name = f.name; params = f.params; body = z }, e))) same ∙ ap (λ z. after z (Ok (f, e))) (sym (ap (first_deep n) (kernel_parts f) ∙ parts_deep ks f.is_static f.is_inline n a.0 b.0 row a.1 b.1))
+    kernel_is ks n a.0 b.0 e f.is_static f.is_inline f.name f.params ss (first_deep b.0 (row_marks f.name f.params (stmt_trees ss)))
+        (skip_is ks wd.Static f.is_static n a.0 [] e a.1 (λ i. not_static f.is_inline i a.0 a.1 a.2))
+        (skip_is ks wd.Inline f.is_inline a.0 b.0 [] e b.1 (λ i. not_inline i a.0 b.0 b.1 b.2)) r
+        ∙ ap (λ (z : StmtTrees). after (first_deep b.0 (row_marks f.name f.params z))
+        (Ok (record { is_static = f.is_static; is_inline = f.is_inline; name = f.name; params = f.params; body = z }, e))) same
+        ∙ ap (λ z. after z (Ok (f, e)))
+        (sym (ap (first_deep n) (kernel_parts f) ∙ parts_deep ks f.is_static f.is_inline n a.0 b.0 row a.1 b.1))
   where
-    not_static : (i : Bool) → f.is_static ≡ false → (j : ℕ) → Spans ks n (word_if f.is_static 0 wd.Static) j → Spans ks j (word_if i 0 wd.Inline ++ row_marks f.name f.params f.body) e → word_is wd.Static (slice_get ks n) ≡ false
+    not_static : (i : Bool) → f.is_static ≡ false → (j : ℕ) → Spans ks n (word_if f.is_static 0 wd.Static) j
+        → Spans ks j (word_if i 0 wd.Inline ++ row_marks f.name f.params f.body) e → word_is wd.Static (slice_get ks n) ≡ false
     not_static true t j a b =
         let same : n ≡ j = subst (λ z. Spans ks n (word_if z 0 wd.Static) j) t a in
         rw (ap (slice_get ks) same ∙ b.0) refl
@@ -112,7 +137,9 @@ kernel_sound ks n y h =
     let row = row_marks tree.name tree.params tree.body in
     let made_ : Found ks IsKernel kernel Free n tree v.0.1 = record {
       valid = r.valid;
-      spans = subst (λ z. Spans ks n z v.0.1) (sym (kernel_parts tree)) (spans_join ks n (word_if t.0 0 wd.Static) (word_if i.0 0 wd.Inline ++ row) t.1 v.0.1 (skip_spans ks wd.Static n) (spans_join ks t.1 (word_if i.0 0 wd.Inline) row i.1 v.0.1 (skip_spans ks wd.Inline t.1) r.spans));
+      spans = subst (λ z. Spans ks n z v.0.1) (sym (kernel_parts tree))
+          (spans_join ks n (word_if t.0 0 wd.Static) (word_if i.0 0 wd.Inline ++ row) t.1 v.0.1 (skip_spans ks wd.Static n)
+          (spans_join ks t.1 (word_if i.0 0 wd.Inline) row i.1 v.0.1 (skip_spans ks wd.Inline t.1) r.spans));
       shallow = ap (first_deep n) (kernel_parts tree) ∙ parts_deep ks t.0 i.0 n t.1 i.1 row (skip_spans ks wd.Static n) (skip_spans ks wd.Inline t.1) ∙ r.shallow;
       behind = tt;
     } in
@@ -140,7 +167,10 @@ top_begins ks n e (Extern x) more o s = record { lead = rw s.0 refl; no_main = r
 top_begins ks n e (ExternArray x) more o s = record { lead = rw s.0 refl; no_main = rw s.0 refl }
 top_begins ks n e (FileDeclaration v) more o s = by_const v.is_const v.declrs o.0 s
   where
-    by_const : (c : Bool) (ds : List DeclrTree) → ds ≢ [] → Spans ks n ((word_if c 1 wd.Const ++ (Rattle.c_tree.specs.Print.named_word 1 wd.Int v.at ∷ (commas 1 (declrs 1 ds) ++ sign_mark 1 sg.Semicolon ∷ []))) ++ more) e → TopBegins ks n (FileDeclaration v)
+    by_const : (c : Bool) (ds : List DeclrTree) → ds ≢ []
+        → Spans ks n ((word_if c 1 wd.Const ++
+        (Rattle.c_tree.specs.Print.named_word 1 wd.Int v.at ∷ (commas 1 (declrs 1 ds) ++ sign_mark 1 sg.Semicolon ∷ []))) ++ more) e
+        → TopBegins ks n (FileDeclaration v)
     by_const true ds o s = record { lead = rw s.0 refl; no_main = rw s.0 refl }
     by_const false [] o s = absurd (o refl)
     by_const false (Plain x ∷ []) o s = record { lead = rw s.0 refl; no_main = rw (s.0, s.2.0) refl }
@@ -151,7 +181,11 @@ top_begins ks n e (FileDeclaration v) more o s = by_const v.is_const v.declrs o.
     by_const false (Array x i ∷ b ∷ ds) o s = record { lead = rw s.0 refl; no_main = rw (s.0, s.2.0) refl }
 top_begins ks n e (Kernel f) more o s = by_words f.is_static f.is_inline s
   where
-    by_words : (t i : Bool) → Spans ks n ((word_if t 0 wd.Static ++ (word_if i 0 wd.Inline ++ (word_mark 0 wd.Void ∷ ident_mark 0 f.name ∷ sign_mark 0 sg.LeftParen ∷ (commas 0 (params f.params) ++ (sign_mark 0 sg.RightParen ∷ sign_mark 0 sg.LeftBrace ∷ (stmts 1 f.body ++ sign_mark 0 sg.RightBrace ∷ [])))))) ++ more) e → TopBegins ks n (Kernel f)
+    by_words : (t i : Bool) → Spans ks n
+        ((word_if t 0 wd.Static ++ (word_if i 0 wd.Inline ++
+        (word_mark 0 wd.Void ∷ ident_mark 0 f.name ∷ sign_mark 0 sg.LeftParen
+        ∷ (commas 0 (params f.params) ++ (sign_mark 0 sg.RightParen ∷ sign_mark 0 sg.LeftBrace
+        ∷ (stmts 1 f.body ++ sign_mark 0 sg.RightBrace ∷ [])))))) ++ more) e → TopBegins ks n (Kernel f)
     by_words true i s = record { lead = rw s.0 refl; no_main = rw s.0 refl }
     by_words false true s = record { lead = rw s.0 refl; no_main = rw s.0 refl }
     by_words false false s = record { lead = rw s.0 refl; no_main = rw s.0 refl }
@@ -205,7 +239,11 @@ vars_some v = omega (arith, length-append (word_if v.is_const 1 wd.Const) (tail_
 kernel_some : (f : KernelTree) → 1 ≤ length (kernel f)
 kernel_some f = by_words f.is_static f.is_inline
   where
-    by_words : (t i : Bool) → 1 ≤ length (word_if t 0 wd.Static ++ (word_if i 0 wd.Inline ++ (word_mark 0 wd.Void ∷ ident_mark 0 f.name ∷ sign_mark 0 sg.LeftParen ∷ (commas 0 (params f.params) ++ (sign_mark 0 sg.RightParen ∷ sign_mark 0 sg.LeftBrace ∷ (stmts 1 f.body ++ sign_mark 0 sg.RightBrace ∷ []))))))
+    by_words : (t i : Bool) → 1 ≤ length
+        (word_if t 0 wd.Static ++ (word_if i 0 wd.Inline ++
+        (word_mark 0 wd.Void ∷ ident_mark 0 f.name ∷ sign_mark 0 sg.LeftParen
+        ∷ (commas 0 (params f.params) ++ (sign_mark 0 sg.RightParen ∷ sign_mark 0 sg.LeftBrace
+        ∷ (stmts 1 f.body ++ sign_mark 0 sg.RightBrace ∷ []))))))
     by_words true i = omega arith
     by_words false true = omega arith
     by_words false false = omega arith

@@ -59,7 +59,9 @@ module _ (ks : List Kind) (rec : Rec) (k : ℕ) (finds : Finds ks (suc k) rec) (
   unfolding name_at
   name_sound x n y h g = by_test (sign_is sign.LeftBracket (slice_get ks (suc n))) refl g
     where
-      by_test : (t : Bool) → sign_is sign.LeftBracket (slice_get ks (suc n)) ≡ t → cond t (rec 0 (suc (suc n)) >>= λ i. sign_at ks sign.RightBracket i.1 >>= λ e. Ok (Index (record { name = x; at = n }) i.0, e)) (Ok (Name (record { name = x; at = n }), suc n)) ≡ Ok y → Fronts ks n k y.0 y.1
+      by_test : (t : Bool) → sign_is sign.LeftBracket (slice_get ks (suc n)) ≡ t
+          → cond t (rec 0 (suc (suc n)) >>= λ i. sign_at ks sign.RightBracket i.1 >>= λ e. Ok (Index (record { name = x; at = n }) i.0, e))
+          (Ok (Name (record { name = x; at = n }), suc n)) ≡ Ok y → Fronts ks n k y.0 y.1
       by_test true b g =
           let r = bind_ok (rec 0 (suc (suc n))) _ y g in
           let i = r.0 in
@@ -68,7 +70,9 @@ module _ (ks : List Kind) (rec : Rec) (k : ℕ) (finds : Finds ks (suc k) rec) (
           let inner = (finds 0 (suc (suc n)) zero-le i r.1).whole in
           let made : Fronts ks n k (Index (record { name = x; at = n }) i.0) t.0 = record {
             whole = record {
-              spans = (h, refl, (sign_found sign.LeftBracket (slice_get ks (suc n)) b, tt, spans_join ks (suc (suc n)) (expr (suc k) i.0) (sign_mark k sign.RightBracket ∷ []) i.1 t.0 inner.spans (c.0, tt, sym c.1)));
+              spans = (h, refl, (sign_found sign.LeftBracket (slice_get ks (suc n)) b, tt,
+                  spans_join ks (suc (suc n)) (expr (suc k) i.0) (sign_mark k sign.RightBracket ∷ []) i.1 t.0 inner.spans
+                  (c.0, tt, sym c.1)));
               shallow = rw (fits, deep_closed ks (suc (suc n)) (expr (suc k) i.0) (sign_mark k sign.RightBracket) i.1 inner.spans fits) inner.shallow;
               grouped = inner.grouped;
             };
@@ -88,7 +92,8 @@ module _ (ks : List Kind) (rec : Rec) (k : ℕ) (finds : Finds ks (suc k) rec) (
           } in
           subst (FrontsAt ks n k) (ok_one (Name (record { name = x; at = n }), suc n) y g) made
 
-  deref_sound : (n : ℕ) (y : ExprTree × ℕ) (o : Option Kind) → slice_get ks n ≡ Some (kind.Sign sign.Star) → slice_get ks (suc n) ≡ o → (name_in o (suc n) >>= λ x. Ok (Deref n (record { name = x; at = suc n }), suc (suc n))) ≡ Ok y → Fronts ks n k y.0 y.1
+  deref_sound : (n : ℕ) (y : ExprTree × ℕ) (o : Option Kind) → slice_get ks n ≡ Some (kind.Sign sign.Star) → slice_get ks (suc n) ≡ o
+      → (name_in o (suc n) >>= λ x. Ok (Deref n (record { name = x; at = suc n }), suc (suc n))) ≡ Ok y → Fronts ks n k y.0 y.1
   deref_sound n y None h o g = cc
   deref_sound n y (Some (kind.Name x)) h o g =
       let made : Fronts ks n k (Deref n (record { name = x; at = suc n })) (suc (suc n)) = record {
@@ -157,8 +162,12 @@ module _ (ks : List Kind) (rec : Rec) (k : ℕ) (finds : Finds ks (suc k) rec) (
       let ends : Spans ks (suc a.0.1) tail d.0 = spans_join ks (suc a.0.1) (expr (suc k) b.0.0) (sign_mark k sign.RightParen ∷ []) b.0.1 d.0 second.spans (dc.0, tt, sym dc.1) in
       let made : Fronts ks n k (Extremum w n a.0.0 b.0.0) d.0 = record {
         whole = record {
-          spans = (h ∙ ap (λ x. Some (kind.Word x)) (word_of_extremum s w l), refl, (oc.0, tt, spans_join ks (suc (suc n)) (expr (suc k) a.0.0) (sign_mark k sign.Comma ∷ tail) a.0.1 d.0 first.spans (cc'.0, tt, ends)));
-          shallow = rw (fits, deep_between ks (suc (suc n)) (expr (suc k) a.0.0) (sign_mark k sign.Comma) tail a.0.1 first.spans fits, deep_closed ks (suc a.0.1) (expr (suc k) b.0.0) (sign_mark k sign.RightParen) b.0.1 second.spans fits, first.shallow, second.shallow) refl;
+          spans = (h ∙ ap (λ x. Some (kind.Word x)) (word_of_extremum s w l), refl,
+              (oc.0, tt, spans_join ks (suc (suc n)) (expr (suc k) a.0.0) (sign_mark k sign.Comma ∷ tail) a.0.1 d.0 first.spans
+              (cc'.0, tt, ends)));
+          shallow = rw (fits, deep_between ks (suc (suc n)) (expr (suc k) a.0.0) (sign_mark k sign.Comma) tail a.0.1 first.spans fits,
+              deep_closed ks (suc a.0.1) (expr (suc k) b.0.0) (sign_mark k sign.RightParen) b.0.1 second.spans fits, first.shallow,
+              second.shallow) refl;
           grouped = (first.grouped, second.grouped);
         };
         strong = omega arith;
@@ -174,7 +183,9 @@ module _ (ks : List Kind) (rec : Rec) (k : ℕ) (finds : Finds ks (suc k) rec) (
       let first : Whole ks (suc (suc n)) (suc k) a.0.0 a.0.1 = subst (λ z. Whole ks z (suc k) a.0.0 a.0.1) oc.1 (finds 0 o.0 zero-le a.0 a.1).whole in
       let made : Fronts ks n k (Absolute n a.0.0) d.0 = record {
         whole = record {
-          spans = (h ∙ ap (λ x. Some (kind.Word x)) (word_of_absolute s l), refl, (oc.0, tt, spans_join ks (suc (suc n)) (expr (suc k) a.0.0) (sign_mark k sign.RightParen ∷ []) a.0.1 d.0 first.spans (dc.0, tt, sym dc.1)));
+          spans = (h ∙ ap (λ x. Some (kind.Word x)) (word_of_absolute s l), refl,
+              (oc.0, tt, spans_join ks (suc (suc n)) (expr (suc k) a.0.0) (sign_mark k sign.RightParen ∷ []) a.0.1 d.0 first.spans
+              (dc.0, tt, sym dc.1)));
           shallow = rw (fits, deep_closed ks (suc (suc n)) (expr (suc k) a.0.0) (sign_mark k sign.RightParen) a.0.1 first.spans fits) first.shallow;
           grouped = first.grouped;
         };
@@ -226,7 +237,8 @@ module _ (ks : List Kind) (rec : Rec) (k d : ℕ) (finds : Finds ks (suc k) rec)
       let made : Chained ks m s k l n = record { held = h; stops = o } in
       subst (ChainedAt ks m s k) (ok_one (l, n) y g) made
 
-  pub held_more : (m s : ℕ) (l : ExprTree) (n : ℕ) (op : BinaryOp) (x : ExprTree × ℕ) → chain_of l < 128 → Held ks m s k l n → operator_at ks m n ≡ Some op → rec (suc (level_of op)) (suc n) ≡ Ok x → Held ks m s k (Binary op n l x.0) x.1
+  pub held_more : (m s : ℕ) (l : ExprTree) (n : ℕ) (op : BinaryOp) (x : ExprTree × ℕ) → chain_of l < 128 → Held ks m s k l n
+      → operator_at ks m n ≡ Some op → rec (suc (level_of op)) (suc n) ≡ Ok x → Held ks m s k (Binary op n l x.0) x.1
   held_more m s l n op x c h o g =
       let r = operator_some ks m n op o in
       let right = finds (suc (level_of op)) (suc n) (omega (arith, (level_bounds op).1)) x g in
@@ -262,7 +274,11 @@ module _ (ks : List Kind) (rec : Rec) (k d : ℕ) (finds : Finds ks (suc k) rec)
   chain_sound (suc c) m s l n y b h g =
       chain_more (chain ks rec c m) (λ x op i t. chain_sound c m s (Binary op n l x.0) x.1 y (omega (arith, b)) i t) (operator_at ks m n) refl g
     where
-      chain_more : (go : ExprTree → ℕ → Step) → ((x : ExprTree × ℕ) → (op : BinaryOp) → Held ks m s k (Binary op n l x.0) x.1 → go (Binary op n l x.0) x.1 ≡ Ok y → Chained ks m s k y.0 y.1) → (o : Option BinaryOp) → operator_at ks m n ≡ o → on_operator {A = Step} o (Ok (l, n)) (λ op. rec (suc (level_of op)) (suc n) >>= λ x. go (Binary op n l x.0) x.1) ≡ Ok y → Chained ks m s k y.0 y.1
+      chain_more : (go : ExprTree → ℕ → Step) →
+          ((x : ExprTree × ℕ) → (op : BinaryOp) → Held ks m s k (Binary op n l x.0) x.1 → go (Binary op n l x.0) x.1 ≡ Ok y
+          → Chained ks m s k y.0 y.1) → (o : Option BinaryOp) → operator_at ks m n ≡ o
+          → on_operator {A = Step} o (Ok (l, n)) (λ op. rec (suc (level_of op)) (suc n) >>= λ x. go (Binary op n l x.0) x.1) ≡ Ok y
+          → Chained ks m s k y.0 y.1
       chain_more go next None o g = chain_ends m s l n y h o g
       chain_more go next (Some op) o g =
           let r = bind_ok (rec (suc (level_of op)) (suc n)) _ y g in
@@ -272,7 +288,9 @@ module _ (ks : List Kind) (rec : Rec) (k d : ℕ) (finds : Finds ks (suc k) rec)
   unfolding choice
   choice_sound zero s l n y h g = by_test (sign_is sign.Question (slice_get ks n)) refl g
     where
-      by_test : (t : Bool) → sign_is sign.Question (slice_get ks n) ≡ t → cond t (rec 0 (suc n) >>= λ y. sign_at ks sign.Colon y.1 >>= λ e. rec 0 e >>= λ z. Ok (Choice n l y.0 z.0, z.1)) (Ok (l, n)) ≡ Ok y → Found ks 0 s k y.0 y.1
+      by_test : (t : Bool) → sign_is sign.Question (slice_get ks n) ≡ t
+          → cond t (rec 0 (suc n) >>= λ y. sign_at ks sign.Colon y.1 >>= λ e. rec 0 e >>= λ z. Ok (Choice n l y.0 z.0, z.1)) (Ok (l, n)) ≡
+          Ok y → Found ks 0 s k y.0 y.1
       by_test true t g =
           let a = bind_ok (rec 0 (suc n)) _ y g in
           let c = bind_ok (sign_at ks sign.Colon a.0.1) _ y a.2 in
@@ -286,7 +304,9 @@ module _ (ks : List Kind) (rec : Rec) (k d : ℕ) (finds : Finds ks (suc k) rec)
           let made : Found ks 0 s k (Choice n l a.0.0 b.0.0) b.0.1 = record {
             whole = record {
               spans = spans_join ks s (expr k l) (named_sign k sign.Question n ∷ tail) n b.0.1 h.held.whole.spans (sign_found sign.Question (slice_get ks n) t, refl, ends);
-              shallow = rw (deep_between ks s (expr k l) (named_sign k sign.Question n) tail n h.held.whole.spans fits, deep_between ks (suc n) (expr (suc k) a.0.0) (sign_mark k sign.Colon) (expr (suc k) b.0.0) a.0.1 first.spans fits, h.held.whole.shallow, first.shallow, second.whole.shallow) refl;
+              shallow = rw (deep_between ks s (expr k l) (named_sign k sign.Question n) tail n h.held.whole.spans fits,
+                  deep_between ks (suc n) (expr (suc k) a.0.0) (sign_mark k sign.Colon) (expr (suc k) b.0.0) a.0.1 first.spans fits,
+                  h.held.whole.shallow, first.shallow, second.whole.shallow) refl;
               grouped = (h.held.lowest, h.held.whole.grouped, first.grouped, second.whole.grouped);
             };
             strong = zero-le;

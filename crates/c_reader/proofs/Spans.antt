@@ -55,7 +55,8 @@ or_else_none None = refl
 or_else_none (Some p) = refl
 
 -- marks, a mark that isn't too deep, and marks
-pub deep_between : (ks : List Kind) (n : ℕ) (a : List Mark) (m : Mark) (b : List Mark) (j : ℕ) → Spans ks n a j → nat_lt 64 m.level ≡ false → first_deep n (a ++ m ∷ b) ≡ or_else (first_deep n a) (first_deep (suc j) b)
+pub deep_between : (ks : List Kind) (n : ℕ) (a : List Mark) (m : Mark) (b : List Mark) (j : ℕ) → Spans ks n a j → nat_lt 64 m.level ≡ false
+    → first_deep n (a ++ m ∷ b) ≡ or_else (first_deep n a) (first_deep (suc j) b)
 deep_between ks n a m b j s t = deep_split ks n a (m ∷ b) j s ∙ ap (or_else (first_deep n a)) (deep_over j m b t)
 
 -- marks and a closing one

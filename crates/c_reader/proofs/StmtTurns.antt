@@ -34,16 +34,22 @@ block_view at v =
     let row = row_of (Block at v) in
     ap (λ z. tree.Block at z) (row_is row.0 row.1 ∙ ap stmts_of (items_hidden-the_row-Stmt-0 v) ∙ trees_are v.items)
 
-pub block_led : (ks : List Kind) (d : ℕ) (rec : Reader StmtTree) (l : StmtLead) (n o m e : ℕ) (xs : List StmtTree) → l ≡ lead.Block → sign_at ks s.LeftBrace n ≡ Ok o → stmts_in ks rec o ≡ Ok (xs, m) → sign_at ks s.RightBrace m ≡ Ok e → stmt_led ks d rec l n ≡ Ok (tree.Block n (stmt_trees xs), e)
+pub block_led : (ks : List Kind) (d : ℕ) (rec : Reader StmtTree) (l : StmtLead) (n o m e : ℕ) (xs : List StmtTree) → l ≡ lead.Block
+    → sign_at ks s.LeftBrace n ≡ Ok o → stmts_in ks rec o ≡ Ok (xs, m) → sign_at ks s.RightBrace m ≡ Ok e
+    → stmt_led ks d rec l n ≡ Ok (tree.Block n (stmt_trees xs), e)
 block_led ks d rec l n o m e xs h a b c = rw (h, a, b, c) refl
 
-pub if_two : (ks : List Kind) (d : ℕ) (rec : Reader StmtTree) (n j l e : ℕ) (x : ExprTree) (a b : StmtTree) → condition_at ks d n ≡ Ok (x, j) → body_at ks rec j ≡ Ok (a, l) → word_is w.Else (slice_get ks l) ≡ true → body_at ks rec (l + 1) ≡ Ok (b, e) → if_at ks d rec n ≡ Ok (tree.IfElse n x a b, e)
+pub if_two : (ks : List Kind) (d : ℕ) (rec : Reader StmtTree) (n j l e : ℕ) (x : ExprTree) (a b : StmtTree)
+    → condition_at ks d n ≡ Ok (x, j) → body_at ks rec j ≡ Ok (a, l) → word_is w.Else (slice_get ks l) ≡ true
+    → body_at ks rec (l + 1) ≡ Ok (b, e) → if_at ks d rec n ≡ Ok (tree.IfElse n x a b, e)
 unfolding if_at
 if_two ks d rec n j l e x a b c f h g =
     let g' : body_at ks rec (suc l) ≡ Ok (b, e) = rw (← add-one l) g in
     rw (c, f, h, g') refl
 
-pub if_two_fails : (ks : List Kind) (d : ℕ) (rec : Reader StmtTree) (n j l : ℕ) (x : ExprTree) (a : StmtTree) (e : ReadError) → condition_at ks d n ≡ Ok (x, j) → body_at ks rec j ≡ Ok (a, l) → word_is w.Else (slice_get ks l) ≡ true → Fails e (body_at ks rec (l + 1)) → Fails e (if_at ks d rec n)
+pub if_two_fails : (ks : List Kind) (d : ℕ) (rec : Reader StmtTree) (n j l : ℕ) (x : ExprTree) (a : StmtTree) (e : ReadError)
+    → condition_at ks d n ≡ Ok (x, j) → body_at ks rec j ≡ Ok (a, l) → word_is w.Else (slice_get ks l) ≡ true
+    → Fails e (body_at ks rec (l + 1)) → Fails e (if_at ks d rec n)
 unfolding if_at
 if_two_fails ks d rec n j l x a errors.Memory c f h g = tt
 if_two_fails ks d rec n j l x a (errors.Fault t) c f h g =

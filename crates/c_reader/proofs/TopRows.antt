@@ -28,11 +28,14 @@ use Rattle.c_reader.proofs.Separated.{each, row, separated_complete, separated_s
 extern_front_exact : (ks : List Kind) → Exact ks 0 3 Any (λ v. word_mark 0 wd.Extern ∷ word_mark 0 wd.Int ∷ ident_mark 0 v.1.1 ∷ []) Free Free (extern_front ks)
 extern_front_exact ks = flat ks (word_exact ks 0 0 wd.Extern refl) (flat ks (word_exact ks 0 0 wd.Int refl) (ident_exact ks 0 0 refl))
 
-extern_plain : (ks : List Kind) (n j e : ℕ) (x : Ident) → extern_front ks n ≡ Ok ((tt, (tt, x)), j) → sign_is sg.LeftBracket (slice_get ks j) ≡ false → sign_at ks sg.Semicolon j ≡ Ok e → extern_at ks n ≡ Ok (Extern x, e)
+extern_plain : (ks : List Kind) (n j e : ℕ) (x : Ident) → extern_front ks n ≡ Ok ((tt, (tt, x)), j)
+    → sign_is sg.LeftBracket (slice_get ks j) ≡ false → sign_at ks sg.Semicolon j ≡ Ok e → extern_at ks n ≡ Ok (Extern x, e)
 unfolding extern_at
 extern_plain ks n j e x a b c = rw (a, b, c) refl
 
-extern_array : (ks : List Kind) (n j e : ℕ) (x : Ident) → extern_front ks n ≡ Ok ((tt, (tt, x)), j) → slice_get ks j ≡ Some (kind.Sign sg.LeftBracket) → both (sign ks sg.RightBracket) (sign ks sg.Semicolon) (suc j) ≡ Ok ((tt, tt), e) → extern_at ks n ≡ Ok (ExternArray x, e)
+extern_array : (ks : List Kind) (n j e : ℕ) (x : Ident) → extern_front ks n ≡ Ok ((tt, (tt, x)), j)
+    → slice_get ks j ≡ Some (kind.Sign sg.LeftBracket) → both (sign ks sg.RightBracket) (sign ks sg.Semicolon) (suc j) ≡ Ok ((tt, tt), e)
+    → extern_at ks n ≡ Ok (ExternArray x, e)
 unfolding extern_at
 extern_array ks n j e x a b c = rw (a, b, c) refl
 
@@ -60,14 +63,19 @@ extern_sound ks n y h =
     let x = bind_ok (extern_front ks n) _ y h in
     by_test x.0 ((extern_front_exact ks).sound n x.0 x.1) (sign_is sg.LeftBracket (slice_get ks x.0.1)) refl x.2
   where
-    by_test : (x : (Unit {0} × (Unit {0} × Ident)) × ℕ) → Found ks Any (λ v. word_mark 0 wd.Extern ∷ word_mark 0 wd.Int ∷ ident_mark 0 v.1.1 ∷ []) Free n x.0 x.1 → (t : Bool) → sign_is sg.LeftBracket (slice_get ks x.1) ≡ t → cond t (both (sign ks sg.RightBracket) (sign ks sg.Semicolon) (suc x.1) >>= λ e. Ok (ExternArray x.0.1.1, e.1)) (sign_at ks sg.Semicolon x.1 >>= λ e. Ok (Extern x.0.1.1, e)) ≡ Ok y → FoundTop ks n y
+    by_test : (x : (Unit {0} × (Unit {0} × Ident)) × ℕ)
+        → Found ks Any (λ v. word_mark 0 wd.Extern ∷ word_mark 0 wd.Int ∷ ident_mark 0 v.1.1 ∷ []) Free n x.0 x.1 → (t : Bool)
+        → sign_is sg.LeftBracket (slice_get ks x.1) ≡ t → cond t
+        (both (sign ks sg.RightBracket) (sign ks sg.Semicolon) (suc x.1) >>= λ e. Ok (ExternArray x.0.1.1, e.1))
+        (sign_at ks sg.Semicolon x.1 >>= λ e. Ok (Extern x.0.1.1, e)) ≡ Ok y → FoundTop ks n y
     by_test x f true t h =
         let e = bind_ok (both (sign ks sg.RightBracket) (sign ks sg.Semicolon) (suc x.1)) _ y h in
         let g = (brackets_exact ks).sound (suc x.1) e.0 e.1 in
         let front = word_mark 0 wd.Extern ∷ word_mark 0 wd.Int ∷ ident_mark 0 x.0.1.1 ∷ [] in
         let made_ : FoundTop ks n (ExternArray x.0.1.1, e.0.1) = record {
           valid = tt;
-          spans = spans_join ks n front (sign_mark 0 sg.LeftBracket ∷ sign_mark 0 sg.RightBracket ∷ sign_mark 0 sg.Semicolon ∷ []) x.1 e.0.1 f.spans (sign_found sg.LeftBracket (slice_get ks x.1) t, tt, g.spans);
+          spans = spans_join ks n front (sign_mark 0 sg.LeftBracket ∷ sign_mark 0 sg.RightBracket ∷ sign_mark 0 sg.Semicolon ∷ []) x.1 e.0.1
+              f.spans (sign_found sg.LeftBracket (slice_get ks x.1) t, tt, g.spans);
           shallow = refl;
           behind = tt;
         } in
@@ -89,7 +97,10 @@ unfolding extern_at
 extern_far ks n q h =
     far_bind (extern_front ks n) _ q h ((extern_front_exact ks).far n q zero-le) (λ x r g. by_test x (sign_is sg.LeftBracket (slice_get ks x.1)) g)
   where
-    by_test : (x : (Unit {0} × (Unit {0} × Ident)) × ℕ) (t : Bool) → ◌≡◌ {A = Result (TopTree × ℕ) Fault} (cond t (both (sign ks sg.RightBracket) (sign ks sg.Semicolon) (suc x.1) >>= λ e. Ok (ExternArray x.0.1.1, e.1)) (sign_at ks sg.Semicolon x.1 >>= λ e. Ok (Extern x.0.1.1, e))) (Err (TooDeep q)) → 64 ≤ q
+    by_test : (x : (Unit {0} × (Unit {0} × Ident)) × ℕ) (t : Bool)
+        → ◌≡◌ {A = Result (TopTree × ℕ) Fault}
+        (cond t (both (sign ks sg.RightBracket) (sign ks sg.Semicolon) (suc x.1) >>= λ e. Ok (ExternArray x.0.1.1, e.1))
+        (sign_at ks sg.Semicolon x.1 >>= λ e. Ok (Extern x.0.1.1, e))) (Err (TooDeep q)) → 64 ≤ q
     by_test x true h = far_bind (both (sign ks sg.RightBracket) (sign ks sg.Semicolon) (suc x.1)) _ q h ((brackets_exact ks).far (suc x.1) q zero-le) (λ e r g. cc)
     by_test x false h = far_bind (sign_at ks sg.Semicolon x.1) _ q h (sign_far ks sg.Semicolon x.1 q) (λ e r g. cc)
 
@@ -104,7 +115,9 @@ skip_no ks w n h = rw h refl
 pub skip_spans : (ks : List Kind) (w : Word) (n : ℕ) → Spans ks n (word_if (skipped ks w n).0 0 w) (skipped ks w n).1
 skip_spans ks w n = by_test (word_is w (slice_get ks n)) refl
   where
-    by_test : (t : Bool) → word_is w (slice_get ks n) ≡ t → Spans ks n (word_if (cond t (let x : Bool × ℕ = (true, suc n) in x) (false, n)).0 0 w) (cond t (let x : Bool × ℕ = (true, suc n) in x) (false, n)).1
+    by_test : (t : Bool) → word_is w (slice_get ks n) ≡ t
+        → Spans ks n (word_if (cond t (let x : Bool × ℕ = (true, suc n) in x) (false, n)).0 0 w)
+        (cond t (let x : Bool × ℕ = (true, suc n) in x) (false, n)).1
     by_test true t = (word_found w (slice_get ks n) t, tt, refl)
     by_test false t = refl
 
@@ -137,7 +150,8 @@ param_complete ks p n e s =
     let r = spans_split ks n (word_if p.is_const 0 wd.Const) tail e s in
     param_is ks n r.0 e p.is_const p.name (skip_is ks wd.Const p.is_const n r.0 tail e r.1 (λ i. plain i r.1 r.2)) ((param_row_exact ks).complete (tt, (tt, p.name)) r.0 e tt r.2 tt)
   where
-    plain : p.is_const ≡ false → {j : ℕ} → Spans ks n (word_if p.is_const 0 wd.Const) j → Spans ks j (word_mark 0 wd.Int ∷ sign_mark 0 sg.Star ∷ ident_mark 0 p.name ∷ []) e → word_is wd.Const (slice_get ks n) ≡ false
+    plain : p.is_const ≡ false → {j : ℕ} → Spans ks n (word_if p.is_const 0 wd.Const) j
+        → Spans ks j (word_mark 0 wd.Int ∷ sign_mark 0 sg.Star ∷ ident_mark 0 p.name ∷ []) e → word_is wd.Const (slice_get ks n) ≡ false
     plain i {j} a b =
         let same : n ≡ j = subst (λ z. Spans ks n (word_if z 0 wd.Const) j) i a in
         rw (ap (slice_get ks) same ∙ b.0) refl
@@ -148,7 +162,9 @@ param_sound ks n y h =
     let c = skipped ks wd.Const n in
     let v = bind_ok (param_row ks c.1) _ y h in
     let g = (param_row_exact ks).sound c.1 v.0 v.1 in
-    subst (λ (w : Param × ℕ). Spans ks n (param w.0) w.1) (ok_one (record { is_const = c.0; name = v.0.0.1.1 }, v.0.1) y v.2) (spans_join ks n (word_if c.0 0 wd.Const) (word_mark 0 wd.Int ∷ sign_mark 0 sg.Star ∷ ident_mark 0 v.0.0.1.1 ∷ []) c.1 v.0.1 (skip_spans ks wd.Const n) g.spans)
+    subst (λ (w : Param × ℕ). Spans ks n (param w.0) w.1) (ok_one (record { is_const = c.0; name = v.0.0.1.1 }, v.0.1) y v.2)
+        (spans_join ks n (word_if c.0 0 wd.Const) (word_mark 0 wd.Int ∷ sign_mark 0 sg.Star ∷ ident_mark 0 v.0.0.1.1 ∷ []) c.1 v.0.1
+        (skip_spans ks wd.Const n) g.spans)
 
 param_far : (ks : List Kind) (n q : ℕ) → param_at ks n ≡ Err (TooDeep q) → 64 ≤ q
 unfolding param_at
@@ -188,7 +204,10 @@ pub params_exact : (ks : List Kind) → Exact ks 0 0 (λ ps. ps ≢ []) params_r
 params_exact ks = record {
   complete = λ ps n e o s h.
       (let s' = subst (λ z. Spans ks n z e) (params_row_is ps) s in
-      separated_complete ks 0 1 0 Any param Free Free (param_at ks) sg.RightParen (param_exact ks) refl refl (λ a n h. tt) (λ a n h. tt) ps (length ks) n e o (omega (arith, spans_end ks n (row 0 param sg.RightParen ps) e s', length-append (commas 0 (each param ps)) (sign_mark 0 sg.RightParen ∷ []), commas_long ps, ended ps n e s')) (all_any ps) s' ∙ ap (λ z. after z (Ok (ps, e))) (sym (ap (first_deep n) (params_row_is ps))));
+      separated_complete ks 0 1 0 Any param Free Free (param_at ks) sg.RightParen (param_exact ks) refl refl (λ a n h. tt) (λ a n h. tt) ps
+          (length ks) n e o (omega (arith, spans_end ks n (row 0 param sg.RightParen ps) e s',
+          length-append (commas 0 (each param ps)) (sign_mark 0 sg.RightParen ∷ []), commas_long ps, ended ps n e s')) (all_any ps) s'
+          ∙ ap (λ z. after z (Ok (ps, e))) (sym (ap (first_deep n) (params_row_is ps))));
   sound = λ n y h.
       (let r = separated_sound ks 0 1 0 Any param Free Free (param_at ks) sg.RightParen (param_exact ks) refl refl (λ a n h. tt) (λ a n h. tt) (length ks) n y h in
       record {

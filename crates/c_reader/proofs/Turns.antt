@@ -15,13 +15,16 @@ left_over : (c : ℕ) → c < 128 → 128 - c ≡ suc (128 - (c + 1))
 left_over c h = omega arith
 
 -- one operator more
-pub turn : (ks : List Kind) (rec : Rec) (c m : ℕ) (l : ExprTree) (n : ℕ) (op : BinaryOp) (x : ExprTree × ℕ) → c < 128 → operator_at ks m n ≡ Some op → rec (level_of op + 1) (n + 1) ≡ Ok x → chain ks rec (128 - c) m l n ≡ chain ks rec (128 - (c + 1)) m (Binary op n l x.0) x.1
+pub turn : (ks : List Kind) (rec : Rec) (c m : ℕ) (l : ExprTree) (n : ℕ) (op : BinaryOp) (x : ExprTree × ℕ) → c < 128
+    → operator_at ks m n ≡ Some op → rec (level_of op + 1) (n + 1) ≡ Ok x
+    → chain ks rec (128 - c) m l n ≡ chain ks rec (128 - (c + 1)) m (Binary op n l x.0) x.1
 turn ks rec c m l n op x h o r =
     let r' : rec (suc (level_of op)) (suc n) ≡ Ok x = rw (← add-one (level_of op), ← add-one n) r in
     rw (left_over c h, chain_goes ks rec (128 - (c + 1)) m l n op o, r') refl
 
 -- a right operand that isn't read
-pub turn_fails : (ks : List Kind) (rec : Rec) (c m : ℕ) (l : ExprTree) (n : ℕ) (op : BinaryOp) (e : ReadError) → c < 128 → operator_at ks m n ≡ Some op → Fails e (rec (level_of op + 1) (n + 1)) → Fails e (chain ks rec (128 - c) m l n)
+pub turn_fails : (ks : List Kind) (rec : Rec) (c m : ℕ) (l : ExprTree) (n : ℕ) (op : BinaryOp) (e : ReadError) → c < 128
+    → operator_at ks m n ≡ Some op → Fails e (rec (level_of op + 1) (n + 1)) → Fails e (chain ks rec (128 - c) m l n)
 turn_fails ks rec c m l n op errors.Memory h o r = tt
 turn_fails ks rec c m l n op (errors.Fault f) h o r =
     let r' : rec (suc (level_of op)) (suc n) ≡ Err f = rw (← add-one (level_of op), ← add-one n) r in

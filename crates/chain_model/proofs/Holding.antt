@@ -115,7 +115,8 @@ module _ {F : Type 0} (c : Slicing F) (k : ℕ) where
       join_behind : (x : Kind) → c.program.kind k ≡ x → Behind (item_run c k x st)
       join_behind Free i = free_behind
       join_behind Reduce i = unless_behind (least k st.faults) (reduced c k st) (same_behind (reduced c k st) refl (λ s r d y. held r d y))
-      join_behind Ordered i = unless_behind (least k st.faults) (looped c k (loop c.program k (elements c.program k) (gathered c st)) st) (looped_behind (loop c.program k (elements c.program k) (gathered c st)))
+      join_behind Ordered i = unless_behind (least k st.faults) (looped c k (loop c.program k (elements c.program k) (gathered c st)) st)
+          (looped_behind (loop c.program k (elements c.program k) (gathered c st)))
       join_behind Host i = unless_behind (least k st.faults) (hosted k (c.program.host k (gathered c st)) st) (hosted_behind (c.program.host k (gathered c st)))
 
     by_kind : (x : Kind) → c.program.kind k ≡ x → Behind (item_run c k x st)

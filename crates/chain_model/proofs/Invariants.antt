@@ -17,7 +17,8 @@ pub record Doing {F : Type 0} (g : Given F) (k r m : ℕ) (st : ChainState F) : 
   pub here : (v : VarCell) → st.partials r (g.p.program.site k) v ≡ part g k r m v
   pub others : (s : ℕ) (v : VarCell) → (s ≡ g.p.program.site k → ⊥) → st.partials r s v ≡ unit_at (g.p.reduces s v)
 
-pub doing_like : {F : Type 0} (g : Given F) (k r m : ℕ) (a b : ChainState F) → b.stores r ≡ a.stores r → ((s : ℕ) (v : VarCell) → b.partials r s v ≡ a.partials r s v) → Doing g k r m a → Doing g k r m b
+pub doing_like : {F : Type 0} (g : Given F) (k r m : ℕ) (a b : ChainState F) → b.stores r ≡ a.stores r
+    → ((s : ℕ) (v : VarCell) → b.partials r s v ≡ a.partials r s v) → Doing g k r m a → Doing g k r m b
 doing_like g k r m a b same parts d = record {
   cells = λ x n. has_like (a.stores r) (b.stores r) x (made g k r m x) same (d.cells x n);
   here = λ v. parts (g.p.program.site k) v ∙ d.here v;

@@ -26,7 +26,8 @@ pub record Halted {F : Type 0} (g : Given F) (k : ℕ) (st : ChainState F) : Typ
 agrees_at : {F : Type 0} (g : Given F) (x : Stop F) (t : Store) (o : List ℕ) (st : ChainState F) (s : Seq F) → s ≡ Stopped x t o → st.stop ≡ Some x → st.output ≡ o → ChainAgrees (chains g) s st
 agrees_at g x t o st s e stop out = subst (λ y. ChainAgrees (chains g) y st) (sym e) (stop, out)
 
-halts_at : {F : Type 0} (g : Given F) (x : Stop F) (t : Store) (o : List ℕ) (st : ChainState F) (k : ℕ) → k ≤ g.p.program.items → seq g.p.program k ≡ Stopped x t o → st.stop ≡ Some x → st.output ≡ o → Halted g k st
+halts_at : {F : Type 0} (g : Given F) (x : Stop F) (t : Store) (o : List ℕ) (st : ChainState F) (k : ℕ) → k ≤ g.p.program.items
+    → seq g.p.program k ≡ Stopped x t o → st.stop ≡ Some x → st.output ≡ o → Halted g k st
 halts_at g x t o st k le e stop out = record {
   halted = ap is_some stop;
   over = ap is_going e;
@@ -61,14 +62,17 @@ module _ {F : Type 0} (g : Given F) (j : ℕ) (does : g.p.program.kind (suc j) �
   part_is v r lr =
       ap (λ s. st.partials r s v) (sym after_free.1)
       ∙ (b.parts go r lr (g.p.program.site (suc j)) v
-      ∙ (cond-true (is_reduce (g.p.program.kind (suc j)) && (g.p.program.site (suc j) == g.p.program.site (suc j))) (part g (source g.p (suc j)) r (elements g.p.program (source g.p (suc j))) v) (unit_at (g.p.reduces (g.p.program.site (suc j)) v))
+      ∙ (cond-true (is_reduce (g.p.program.kind (suc j)) && (g.p.program.site (suc j) == g.p.program.site (suc j)))
+          (part g (source g.p (suc j)) r (elements g.p.program (source g.p (suc j))) v) (unit_at (g.p.reduces (g.p.program.site (suc j)) v))
       (and_from (is_reduce (g.p.program.kind (suc j))) (g.p.program.site (suc j) == g.p.program.site (suc j)) (ap is_reduce does) (eq-eqb (g.p.program.site (suc j)) (g.p.program.site (suc j)) refl))
       ∙ ap (λ i. part g i r (elements g.p.program i) v) (source_reduce g.p j does)))
 
   marks : (n e : ℕ) → e < elements g.p.program j
       → ((below n e ≡ true) × (owns g j n e ≡ false) × (below (suc n) e ≡ true)) ⊎ ((below n e ≡ false) × (owns g j n e ≡ below (suc n) e))
   marks n e l = ⊎_elim
-      (λ (lt : g.p.owner (g.p.program.set j) e < n). inl (lt-ltb (g.p.owner (g.p.program.set j) e) n lt, ne_eqb (g.p.owner (g.p.program.set j) e) n (λ i. omega arith), lt-ltb (g.p.owner (g.p.program.set j) e) (suc n) (omega arith)))
+      (λ (lt : g.p.owner (g.p.program.set j) e < n). inl
+          (lt-ltb (g.p.owner (g.p.program.set j) e) n lt, ne_eqb (g.p.owner (g.p.program.set j) e) n (λ i. omega arith),
+          lt-ltb (g.p.owner (g.p.program.set j) e) (suc n) (omega arith)))
       (λ (ge : n ≤ g.p.owner (g.p.program.set j) e). inr (
         le-ltb (g.p.owner (g.p.program.set j) e) n ge,
         ⊎_elim
@@ -85,7 +89,10 @@ module _ {F : Type 0} (g : Given F) (j : ℕ) (does : g.p.program.kind (suc j) �
       ∙ (ap (merge_at (op v) (made_below v n)) (part_is v n (omega arith))
       ∙ (folded_merge (elements g.p.program j) (owns g j n) (makes g j (Variable v))
       (merge_at (op v) (made_below v n)) (unit_at (op v)) (made_below v n)
-      (merge_unit g.p g.q (op v) (made_below v n) (subst Good (merged_is v n (omega arith)) (good_merged g (op v) (parts_of v) n (first v) (λ r. b.sane.parts r (g.p.program.site j) v) (good_store g.p g.q j going_j (Variable v)))))
+      (merge_unit g.p g.q (op v) (made_below v n)
+          (subst Good (merged_is v n (omega arith))
+          (good_merged g (op v) (parts_of v) n (first v) (λ r. b.sane.parts r (g.p.program.site j) v)
+          (good_store g.p g.q j going_j (Variable v)))))
       (λ e x l. merge_amount g.p g.q j e (store_at g.p j) v (made_below v n) x after_free.0 l)
       ∙ folded_union (elements g.p.program j) (elements g.p.program j) (below n) (owns g j n) (below (suc n)) (makes g j (Variable v)) (first v)
       (omega arith) (commutes g.p g.q j (store_at g.p j) (Variable v) after_free.0) (λ e l. marks n e l)))
@@ -96,7 +103,8 @@ module _ {F : Type 0} (g : Given F) (j : ℕ) (does : g.p.program.kind (suc j) �
       ∙ folded_same (elements g.p.program j) (below g.p.ranks) (λ e. true) (makes g j (Variable v)) (first v)
       (λ e l. inl (lt-ltb (g.p.owner (g.p.program.set j) e) g.p.ranks (g.q.lawful.items.owners (g.p.program.set j) e l)))
 
-  reduced_by : (v : VarCell) → FreeCase g.p j → merged_over (g.p.reduces (g.p.program.site (suc j)) v) (λ r. st.partials r (g.p.program.site (suc j)) v) g.p.ranks (st.variables v) ≡ store_at g.p (suc j) (Variable v)
+  reduced_by : (v : VarCell) → FreeCase g.p j → merged_over (g.p.reduces (g.p.program.site (suc j)) v)
+      (λ r. st.partials r (g.p.program.site (suc j)) v) g.p.ranks (st.variables v) ≡ store_at g.p (suc j) (Variable v)
   reduced_by v (was_over h x) = absurd (false≢true (sym h ∙ (ap is_going (sym x) ∙ go)))
   reduced_by v (ends h a f le bad none t x) = absurd (false≢true (ap is_going (sym x) ∙ go))
   reduced_by v (goes_on h h2 none sums out) =
@@ -144,7 +152,8 @@ module _ {F : Type 0} (g : Given F) (k : ℕ) (low : k < g.p.program.items) (joi
     variables = λ y v. variables v ∙ ap (λ j. store_at g.p j (Variable v)) (sym (source_self g.p (suc k) not_reduce_next));
     parts = λ y r lr s v.
         parts r lr s v
-        ∙ sym (cond-false (is_reduce (g.p.program.kind (suc k)) && (s == g.p.program.site (suc k))) (part g (source g.p (suc k)) r (elements g.p.program (source g.p (suc k))) v) (unit_at (g.p.reduces s v))
+        ∙ sym (cond-false (is_reduce (g.p.program.kind (suc k)) && (s == g.p.program.site (suc k)))
+            (part g (source g.p (suc k)) r (elements g.p.program (source g.p (suc k))) v) (unit_at (g.p.reduces s v))
         (ap (λ x. x && (s == g.p.program.site (suc k))) not_reduce_next));
   }
 
@@ -167,7 +176,8 @@ module _ {F : Type 0} (g : Given F) (k : ℕ) (low : k < g.p.program.items) (joi
   goes_reduce does go n = after_join (reduced (chains g) k st)
       (record {
         stores = b.sane.stores;
-        variables = λ v. good_merged g (g.p.reduces (g.p.program.site k) v) (λ r. st.partials r (g.p.program.site k) v) g.p.ranks (st.variables v) (λ r. b.sane.parts r (g.p.program.site k) v) (b.sane.variables v);
+        variables = λ v. good_merged g (g.p.reduces (g.p.program.site k) v) (λ r. st.partials r (g.p.program.site k) v) g.p.ranks
+            (st.variables v) (λ r. b.sane.parts r (g.p.program.site k) v) (b.sane.variables v);
         parts = λ r s v. good_cond g (s == g.p.program.site k) (unit_at (g.p.reduces s v)) (st.partials r s v) (good_unit g.p g.q (g.p.reduces s v)) (b.sane.parts r s v);
       })
       b.running refl (ap is_going n ∙ go) (b.told ∙ ap output_of (sym n))
@@ -194,14 +204,19 @@ module _ {F : Type 0} (g : Given F) (k : ℕ) (low : k < g.p.program.items) (joi
   goes_loop : (t : Store) → InRange t → g.p.program.kind k ≡ Ordered → Comes g k → seq g.p.program (suc k) ≡ Going t (output_of (seq g.p.program k)) → Before g (suc k) (spread (chains g) t st)
   goes_loop t good od go n = after_join (spread (chains g) t st) (good_spread t good) b.running refl (ap is_going n) (b.told ∙ ap output_of (sym n))
       (λ r lr x o. has_same (λ d y. cond (pair_owner (chains g) d y == r) (Some (pair_values t d y)) (st.stores r d y)) x (t (Data x)) (store_at g.p (suc k) (Data x))
-      (some_is (pair_owner (chains g) x.dat x.element == r) (pair_values t x.dat x.element) (st.stores r x.dat x.element) x.component (t (Data x)) (eq-eqb (pair_owner (chains g) x.dat x.element) r o) refl)
+      (some_is (pair_owner (chains g) x.dat x.element == r) (pair_values t x.dat x.element) (st.stores r x.dat x.element) x.component
+          (t (Data x)) (eq-eqb (pair_owner (chains g) x.dat x.element) r o) refl)
       (ap (λ s. store_of s (Data x)) (sym n)))
       (λ v. ap (λ s. store_of s (Variable v)) (sym n))
       (units (ap is_reduce od) go)
 
   -- Host
-  goes_host : (x : VarCell → ℤ) (o : List ℕ) → ((v : VarCell) → Good (x v)) → g.p.program.kind k ≡ Host → Comes g k → seq g.p.program (suc k) ≡ Going (with_variables x (store_at g.p k)) (output_of (seq g.p.program k) ++ o) → Before g (suc k) (hosted k (Goes x o) st)
-  goes_host x o good ho go n = after_join (hosted k (Goes x o) st) (record { stores = b.sane.stores; variables = good; parts = b.sane.parts }) b.running refl (ap is_going n) (ap (λ z. z ++ o) b.told ∙ ap output_of (sym n))
+  goes_host : (x : VarCell → ℤ) (o : List ℕ) → ((v : VarCell) → Good (x v)) → g.p.program.kind k ≡ Host → Comes g k
+      → seq g.p.program (suc k) ≡ Going (with_variables x (store_at g.p k)) (output_of (seq g.p.program k) ++ o)
+      → Before g (suc k) (hosted k (Goes x o) st)
+  goes_host x o good ho go n = after_join (hosted k (Goes x o) st)
+      (record { stores = b.sane.stores; variables = good; parts = b.sane.parts }) b.running refl (ap is_going n)
+      (ap (λ z. z ++ o) b.told ∙ ap output_of (sym n))
       (λ r lr y own. has_same (st.stores r) y (store_at g.p k (Data y)) (store_at g.p (suc k) (Data y)) (b.own go r lr y own) (ap (λ s. store_of s (Data y)) (sym n)))
       (λ v. ap (λ s. store_of s (Variable v)) (sym n))
       (units (ap is_reduce ho) go)

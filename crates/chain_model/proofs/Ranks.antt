@@ -121,7 +121,8 @@ module _ {F : Type 0} (g : Given F) (k : ℕ) (free : g.p.program.kind k ≡ Fre
   abbrev Sums : Type 0
   Sums = (c : Cell) → store_at g.p (suc k) c ≡ folded (elements g.p.program k) (λ e. true) (λ e. makes g k c e) (store_at g.p k c)
 
-  cells_next : (st : ChainState F) (r : ℕ) → Doing g k r (elements g.p.program k) st → Sums → (x : DatCell) → g.needs (suc k) r x.dat x.element ≡ true → Has (st.stores r) x (store_at g.p (suc k) (Data x))
+  cells_next : (st : ChainState F) (r : ℕ) → Doing g k r (elements g.p.program k) st → Sums → (x : DatCell)
+      → g.needs (suc k) r x.dat x.element ≡ true → Has (st.stores r) x (store_at g.p (suc k) (Data x))
   cells_next st r d sums x need =
       has_same (st.stores r) x (made g k r (elements g.p.program k) x) (store_at g.p (suc k) (Data x))
       (d.cells x (g.are.later k r x.dat x.element free need))
@@ -163,22 +164,27 @@ module _ {F : Type 0} (g : Given F) (k : ℕ) (free : g.p.program.kind k ≡ Fre
       subst (λ z. st.partials r z v ≡ part_before g (suc k) r z v) (sym i)
       (d.here v
       ∙ (ap (λ j. part g j r (elements g.p.program j) v) (sym (source_reduce g.p k reduces))
-      ∙ sym (cond-true (is_reduce (g.p.program.kind (suc k)) && (g.p.program.site k == g.p.program.site (suc k))) (part g (source g.p (suc k)) r (elements g.p.program (source g.p (suc k))) v) (unit_at (g.p.reduces (g.p.program.site k) v))
-      (and_from (is_reduce (g.p.program.kind (suc k))) (g.p.program.site k == g.p.program.site (suc k)) (ap is_reduce reduces) (eq-eqb (g.p.program.site k) (g.p.program.site (suc k)) (sym after.1)))))))
+      ∙ sym (cond-true (is_reduce (g.p.program.kind (suc k)) && (g.p.program.site k == g.p.program.site (suc k)))
+          (part g (source g.p (suc k)) r (elements g.p.program (source g.p (suc k))) v) (unit_at (g.p.reduces (g.p.program.site k) v))
+      (and_from (is_reduce (g.p.program.kind (suc k))) (g.p.program.site k == g.p.program.site (suc k)) (ap is_reduce reduces)
+          (eq-eqb (g.p.program.site k) (g.p.program.site (suc k)) (sym after.1)))))))
       (λ (ne : s ≡ g.p.program.site k → ⊥).
       d.others s v ne
-      ∙ sym (cond-false (is_reduce (g.p.program.kind (suc k)) && (s == g.p.program.site (suc k))) (part g (source g.p (suc k)) r (elements g.p.program (source g.p (suc k))) v) (unit_at (g.p.reduces s v))
+      ∙ sym (cond-false (is_reduce (g.p.program.kind (suc k)) && (s == g.p.program.site (suc k)))
+          (part g (source g.p (suc k)) r (elements g.p.program (source g.p (suc k))) v) (unit_at (g.p.reduces s v))
       (and_right (is_reduce (g.p.program.kind (suc k))) (s == g.p.program.site (suc k)) (ne_eqb s (g.p.program.site (suc k)) (λ e. ne (e ∙ after.1))))))
       (cases_eq s (g.p.program.site k))
 
   -- before any other item: units
-  parts_none : (st : ChainState F) (r : ℕ) → Doing g k r (elements g.p.program k) st → is_reduce (g.p.program.kind (suc k)) ≡ false → (s : ℕ) (v : VarCell) → st.partials r s v ≡ part_before g (suc k) r s v
+  parts_none : (st : ChainState F) (r : ℕ) → Doing g k r (elements g.p.program k) st → is_reduce (g.p.program.kind (suc k)) ≡ false
+      → (s : ℕ) (v : VarCell) → st.partials r s v ≡ part_before g (suc k) r s v
   parts_none st r d unset s v =
       ⊎_elim
       (λ (i : s ≡ g.p.program.site k). subst (λ z. st.partials r z v ≡ unit_at (g.p.reduces z v)) (sym i) (d.here v ∙ no_effects unset v (owns g k r) (unit_at (g.p.reduces (g.p.program.site k) v))))
       (λ (ne : s ≡ g.p.program.site k → ⊥). d.others s v ne)
       (cases_eq s (g.p.program.site k))
-      ∙ sym (cond-false (is_reduce (g.p.program.kind (suc k)) && (s == g.p.program.site (suc k))) (part g (source g.p (suc k)) r (elements g.p.program (source g.p (suc k))) v) (unit_at (g.p.reduces s v))
+      ∙ sym (cond-false (is_reduce (g.p.program.kind (suc k)) && (s == g.p.program.site (suc k)))
+          (part g (source g.p (suc k)) r (elements g.p.program (source g.p (suc k))) v) (unit_at (g.p.reduces s v))
       (ap (λ x. x && (s == g.p.program.site (suc k))) unset))
 
   parts_next : (st : ChainState F) (r : ℕ) → Doing g k r (elements g.p.program k) st → (s : ℕ) (v : VarCell) → st.partials r s v ≡ part_before g (suc k) r s v

@@ -40,14 +40,16 @@ module _ {F : Type 0} (g : Given F) where
     recorded = tt;
     kept = λ j e f l. absurd (omega arith);
     went = λ j l. absurd (omega arith);
-    own = λ go r lr x o. some_is (pair_owner (chains g) x.dat x.element == r) (pair_values g.p.program.start x.dat x.element) None x.component (g.p.program.start (Data x)) (eq-eqb (pair_owner (chains g) x.dat x.element) r o) refl;
+    own = λ go r lr x o. some_is (pair_owner (chains g) x.dat x.element == r) (pair_values g.p.program.start x.dat x.element) None
+        x.component (g.p.program.start (Data x)) (eq-eqb (pair_owner (chains g) x.dat x.element) r o) refl;
     inside = λ go f. absurd (false≢true f);
     variables = λ go v. refl;
     parts = λ go r lr s v. sym (cond-false (is_reduce (g.p.program.kind 0) && (s == g.p.program.site 0)) (part g (source g.p 0) r (elements g.p.program (source g.p 0)) v) (unit_at (g.p.reduces s v))
         (ap (λ x. x && (s == g.p.program.site 0)) not_reduce_first));
   }
 
-  one_item : (k : ℕ) → k < g.p.program.items → (st : ChainState F) → Before g k st → Before g (suc k) (item_run (chains g) k (g.p.program.kind k) st) ⊎ Halted g (suc k) (item_run (chains g) k (g.p.program.kind k) st)
+  one_item : (k : ℕ) → k < g.p.program.items → (st : ChainState F) → Before g k st
+      → Before g (suc k) (item_run (chains g) k (g.p.program.kind k) st) ⊎ Halted g (suc k) (item_run (chains g) k (g.p.program.kind k) st)
   one_item k low st b = ⊎_elim
       (λ (f : is_free (g.p.program.kind k) ≡ true).
       let free : g.p.program.kind k ≡ Free = free_kind (g.p.program.kind k) f in

@@ -192,7 +192,9 @@ module _ (b : BoundValue) where
       (cases_Bool (nat_lt j count))
   index_ok count at (negsuc j) i h = let q : ⊥ = cc in absurd q
 
-  cells_there : (xs : List VarValue) (v : ℕ) → ((k i : ℕ) → k < length xs → i < length (get_or xs k no_var).start → There (Variable (record { variable = v + k; component = i }))) → AllVars (cells_from v xs)
+  cells_there : (xs : List VarValue) (v : ℕ) →
+      ((k i : ℕ) → k < length xs → i < length (get_or xs k no_var).start → There (Variable (record { variable = v + k; component = i })))
+      → AllVars (cells_from v xs)
   cells_there [] v h = tt
   cells_there (x ∷ xs) v h =
       vars_both (map (λ i. record { variable = v; component = i }) (numbers (length x.start))) (cells_from (suc v) xs)
@@ -245,7 +247,8 @@ module _ (b : BoundValue) where
         (on_value Halts r (λ x. on_value Halts (stored op op_at (t (Variable c)) x) (λ z. Goes (with_cell c z (variables_of t)) [])))
     assigned_alike c op op_at e (Err f) = refl
     assigned_alike c op op_at e (Ok x) =
-        subst (λ y. HostAlike (on_value Halts (stored op op_at (s (Variable c)) x) (λ z. Goes (with_cell c z (variables_of s)) [])) (on_value Halts (stored op op_at y x) (λ z. Goes (with_cell c z (variables_of t)) []))) e
+        subst (λ y. HostAlike (on_value Halts (stored op op_at (s (Variable c)) x) (λ z. Goes (with_cell c z (variables_of s)) []))
+            (on_value Halts (stored op op_at y x) (λ z. Goes (with_cell c z (variables_of t)) []))) e
         (store_alike c (stored op op_at (s (Variable c)) x))
 
     index_alike : (v : ℕ) (op : AssignOp) (op_at : Pos) (e : RExprTree) → v < length b.vars → (r : Result ℕ KernelFault) → ((i : ℕ) → r ≡ Ok i → i < var_width b v)
@@ -273,7 +276,9 @@ module _ (b : BoundValue) where
     pub act_alike : (a : ActValue) → ActFits b a → HostAlike (act_run b s a) (act_run b t a)
     act_alike (Clear v) f = ((λ c h. ap (λ z. if nat_eq c.variable v then pos 0 else z) (same (Variable c) h)), refl)
     act_alike (Assign v index op op_at e at) f =
-        subst (λ r. HostAlike (assigned b s v index op op_at e at) (on_value Halts r (λ i. on_value Halts (value_of b t e) (λ x. on_value Halts (stored op op_at (t (Variable (record { variable = v; component = i }))) x)
+        subst (λ r. HostAlike (assigned b s v index op op_at e at)
+            (on_value Halts r (λ i. on_value Halts (value_of b t e)
+            (λ x. on_value Halts (stored op op_at (t (Variable (record { variable = v; component = i }))) x)
         (λ z. Goes (with_cell (record { variable = v; component = i }) z (variables_of t)) []))))) (component_alike (var_at b v) at index)
         (index_alike v op op_at e f.0 (component_of b s (var_at b v) at index) (component_there v at index f.1))
     act_alike (Line text es) f =

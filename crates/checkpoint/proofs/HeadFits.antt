@@ -99,7 +99,9 @@ module _ (b : BoundValue) (k : ℕ) where
   text_fits : (text : List ℕ) → IsPlain text → ActFits c (Line text [])
   text_fits text h = (text_takes text h, λ i d l. absurd (omega (arith, l)))
 
-  var_fits : (n from count : ℕ) → from + count ≤ all_cells c → ActFits c (Line (codes "var " ++ decimal n ++ codes " " ++ decimal (length (map (λ i. from + i) (numbers count))) ++ codes "\n" ++ places (map (λ i. from + i) (numbers count))) (map Scalar (map (λ i. from + i) (numbers count))))
+  var_fits : (n from count : ℕ) → from + count ≤ all_cells c
+      → ActFits c (Line (codes "var " ++ decimal n ++ codes " " ++ decimal (length (map (λ i. from + i) (numbers count))) ++ codes "\n" ++
+      places (map (λ i. from + i) (numbers count))) (map Scalar (map (λ i. from + i) (numbers count))))
   var_fits n from count le =
       let ks : List ℕ = map (λ i. from + i) (numbers count) in
       let long : length ks ≡ count = length-map-range_with_len (λ i. from + i) 0 count in
@@ -118,7 +120,8 @@ module _ (b : BoundValue) (k : ℕ) where
             subst (HostWithin c) (sym (get_or-map Scalar ks i 0 d li)) (let lt : get_or ks i 0 < all_cells c = omega (arith, e, lc, le) in lt),
       )
 
-  vars_fit : (xs : List VarValue) (n from : ℕ) (ys : List ItemValue) → from + sum_by (λ (v : VarValue). length v.start) xs ≤ all_cells c → ItemsFit c None ys → ItemsFit c None (says_vars n from xs ++ ys)
+  vars_fit : (xs : List VarValue) (n from : ℕ) (ys : List ItemValue) → from + sum_by (λ (v : VarValue). length v.start) xs ≤ all_cells c
+      → ItemsFit c None ys → ItemsFit c None (says_vars n from xs ++ ys)
   vars_fit [] n from ys le g = g
   vars_fit (x ∷ xs) n from ys le g =
       by x.is_const

@@ -37,7 +37,8 @@ at-last : (xs : List (List ℤ)) (z : List ℤ) → get_or (xs ++ z ∷ []) (len
 at-last [] z = refl
 at-last (x ∷ xs) z = at-last xs z
 
-module _ (g : MeshValue) (xs ys : List (List ℤ)) (z : List ℤ) (e : ℕ) (at : e ≡ length ys) (parts : xs ≡ ys ++ z ∷ []) (long : (d : ℕ) → d < length xs → length (get_or xs d []) ≡ length (dat_values g d)) where
+module _ (g : MeshValue) (xs ys : List (List ℤ)) (z : List ℤ) (e : ℕ) (at : e ≡ length ys) (parts : xs ≡ ys ++ z ∷ [])
+    (long : (d : ℕ) → d < length xs → length (get_or xs d []) ≡ length (dat_values g d)) where
   count : length xs ≡ length ys + 1
   count = ap length parts ∙ length_push ys z
 

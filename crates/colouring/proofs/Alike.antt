@@ -61,7 +61,9 @@ few_blocks n size places some count = ⊎_elim
 -- ---- places
 
 -- the rows of one block
-pub places_alike : (table cs order : List ℕ) (w size b first last places : ℕ) → 0 < size → first ≡ b * size → last ≤ b * size + size → last ≤ places → ((a : ℕ) → a < length order → (first ≤ get_or order a 0) × (get_or order a 0 < last)) → SomeMeet table w cs order → PlacesAlike table w size cs places
+pub places_alike : (table cs order : List ℕ) (w size b first last places : ℕ) → 0 < size → first ≡ b * size → last ≤ b * size + size
+    → last ≤ places → ((a : ℕ) → a < length order → (first ≤ get_or order a 0) × (get_or order a 0 < last)) → SomeMeet table w cs order
+    → PlacesAlike table w size cs places
 places_alike table cs order w size b first last places some ef el lp rows s =
     let q : ℕ = get_or order s.0 0 in
     let p : ℕ = get_or order s.1 0 in
@@ -87,7 +89,9 @@ same_block size b q p some l e =
     let i : (p / size + 1) * size ≤ b * size = mul-le-mul_right size (omega arith) in
     omega arith
 
-pub none_alike_more : (table cs order : List ℕ) (w size b first last : ℕ) → 0 < size → first ≡ b * size → last ≡ min (b * size + size) (length cs) → ((row : ℕ) → first ≤ row → row < last → Contains order row) → (SomeMeet table w cs order → ⊥) → NoneAlike table w size cs (b * size) → NoneAlike table w size cs ((b + 1) * size)
+pub none_alike_more : (table cs order : List ℕ) (w size b first last : ℕ) → 0 < size → first ≡ b * size
+    → last ≡ min (b * size + size) (length cs) → ((row : ℕ) → first ≤ row → row < last → Contains order row)
+    → (SomeMeet table w cs order → ⊥) → NoneAlike table w size cs (b * size) → NoneAlike table w size cs ((b + 1) * size)
 none_alike_more table cs order w size b first last some ef el all clear before q p lq lp nq np ne k e =
     let next : (b + 1) * size ≡ b * size + 1 * size = add-mul b 1 size in
     ⊎_elim
@@ -110,7 +114,10 @@ none_alike_more table cs order w size b first last some ef el all clear before q
     (cases_lt q (b * size))
 
 -- the marks after a block are of places before the next one
-pub marks_before : (table order marks : List ℕ) (w size b first last : ℕ) → first ≡ b * size → last ≤ b * size + size → ((a : ℕ) → a < length order → (first ≤ get_or order a 0) × (get_or order a 0 < last)) → Marked table w order first (length order) marks → (t : ℕ) → t < length marks → (get_or marks t 0 ≡ none) ⊎ (get_or marks t 0 < (b + 1) * size)
+pub marks_before : (table order marks : List ℕ) (w size b first last : ℕ) → first ≡ b * size → last ≤ b * size + size
+    → ((a : ℕ) → a < length order → (first ≤ get_or order a 0) × (get_or order a 0 < last))
+    → Marked table w order first (length order) marks → (t : ℕ) → t < length marks → (get_or marks t 0 ≡ none)
+    ⊎ (get_or marks t 0 < (b + 1) * size)
 marks_before table order marks w size b first last ef el rows m t l =
     let next : (b + 1) * size ≡ b * size + 1 * size = add-mul b 1 size in
     ⊎_elim
@@ -130,7 +137,10 @@ none_alike_all table cs w size n places count past before h =
 
 -- ---- as conflicts
 
-module _ (g : MeshValue) (maps : List (Vec ℕ Global)) (args : List IncArg) (places total : ℕ) (width : ℕ → ℕ) (starts table : List ℕ) (s : AreStarts width args starts total) (t : IsTable g maps args starts places table) (within : (p a : ℕ) (x : IncArg) → p < places → a < length args → target_of g maps p (get_or args a x) < width (get_or args a x).dat) (size : ℕ) (cs : List ℕ) where
+module _ (g : MeshValue) (maps : List (Vec ℕ Global)) (args : List IncArg) (places total : ℕ) (width : ℕ → ℕ) (starts table : List ℕ)
+    (s : AreStarts width args starts total) (t : IsTable g maps args starts places table)
+    (within : (p a : ℕ) (x : IncArg) → p < places → a < length args → target_of g maps p (get_or args a x) < width (get_or args a x).dat)
+    (size : ℕ) (cs : List ℕ) where
   pub blocks_clash : BlocksAlike table (length args) places size cs → BlocksClash g maps args places size cs
   blocks_clash h = record {
     one = h.0;
@@ -179,7 +189,9 @@ module _ (g : MeshValue) (maps : List (Vec ℕ Global)) (args : List IncArg) (pl
     found_places count k e = places_clash count (subst (λ z. PlacesAlike table (length args) size z places) ed (subst (λ z. PlacesAlike z (length args) size ds places) et (k.0 e)))
 
     pub no_places : length cs ≡ places → ((r ≡ true) ↔ PlacesAlike tb (length args) size ds places) → r ≡ false → PlacesClash g maps args places size cs → ⊥
-    no_places count k e c = false≢true (sym e ∙ k.1 (subst (λ z. PlacesAlike z (length args) size ds places) (sym et) (subst (λ z. PlacesAlike table (length args) size z places) (sym ed) (places_meet count c))))
+    no_places count k e c = false≢true
+        (sym e ∙ k.1 (subst (λ z. PlacesAlike z (length args) size ds places) (sym et)
+        (subst (λ z. PlacesAlike table (length args) size z places) (sym ed) (places_meet count c))))
 
 -- ---- answers
 
@@ -191,7 +203,9 @@ decided r P Q f n to from = (λ e. to (f e), λ q. ⊎_elim (λ (t : r ≡ true)
 pub order_read : (xs ys : List ℕ) (n m : ℕ) → ys ≡ xs → ((a : ℕ) → a < length xs → (n ≤ get_or xs a 0) × (get_or xs a 0 < m)) → (a : ℕ) → a < length ys → (n ≤ get_or ys a 0) × (get_or ys a 0 < m)
 order_read xs ys n m e h = subst (λ (z : List ℕ). (a : ℕ) → a < length z → (n ≤ get_or z a 0) × (get_or z a 0 < m)) (sym e) h
 
-pub order_sorted : (xs ys cs : List ℕ) → ys ≡ xs → ((a e : ℕ) → a ≤ e → e < length xs → get_or cs (get_or xs a 0) 0 ≤ get_or cs (get_or xs e 0) 0) → (a e : ℕ) → a ≤ e → e < length ys → get_or cs (get_or ys a 0) 0 ≤ get_or cs (get_or ys e 0) 0
+pub order_sorted : (xs ys cs : List ℕ) → ys ≡ xs →
+    ((a e : ℕ) → a ≤ e → e < length xs → get_or cs (get_or xs a 0) 0 ≤ get_or cs (get_or xs e 0) 0) → (a e : ℕ) → a ≤ e → e < length ys
+    → get_or cs (get_or ys a 0) 0 ≤ get_or cs (get_or ys e 0) 0
 order_sorted xs ys cs e h = subst (λ (z : List ℕ). (a i : ℕ) → a ≤ i → i < length z → get_or cs (get_or z a 0) 0 ≤ get_or cs (get_or z i 0) 0) (sym e) h
 
 pub order_all : (xs ys : List ℕ) (n m : ℕ) → ys ≡ xs → ((row : ℕ) → n ≤ row → row < m → Contains xs row) → (row : ℕ) → n ≤ row → row < m → Contains ys row

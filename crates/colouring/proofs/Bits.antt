@@ -9,9 +9,12 @@ or_iff a m b =
     let o : bit_at (bit_or a m) b ≡ max (bit_at a b) (bit_at m b) = bit_at_or a m b in
     let x : bit_at a b < 2 = bit_at-lt a b in
     let y : bit_at m b < 2 = bit_at-lt m b in
-    ((λ h. ⊎_elim (λ (e : bit_at a b ≡ 1). inl e) (λ (ne : bit_at a b ≡ 1 → ⊥). inr (omega arith)) (cases_eq (bit_at a b) 1)), (λ h. ⊎_elim (λ (e : bit_at a b ≡ 1). omega arith) (λ (e : bit_at m b ≡ 1). omega arith) h))
+    ((λ h. ⊎_elim (λ (e : bit_at a b ≡ 1). inl e) (λ (ne : bit_at a b ≡ 1 → ⊥). inr (omega arith)) (cases_eq (bit_at a b) 1)),
+        (λ h. ⊎_elim (λ (e : bit_at a b ≡ 1). omega arith) (λ (e : bit_at m b ≡ 1). omega arith) h))
 
-pub joined_step : (f : ℕ → ℕ) (ts : List ℕ) (all start k : ℕ) → start ≤ k → ((b : ℕ) → (bit_at all b ≡ 1) ↔ ((x : ℕ) × (start ≤ x) × (x < k) × (bit_at (f (get_or ts x 0)) b ≡ 1))) → (b : ℕ) → (bit_at (bit_or all (f (get_or ts k 0))) b ≡ 1) ↔ ((x : ℕ) × (start ≤ x) × (x < k + 1) × (bit_at (f (get_or ts x 0)) b ≡ 1))
+pub joined_step : (f : ℕ → ℕ) (ts : List ℕ) (all start k : ℕ) → start ≤ k
+    → ((b : ℕ) → (bit_at all b ≡ 1) ↔ ((x : ℕ) × (start ≤ x) × (x < k) × (bit_at (f (get_or ts x 0)) b ≡ 1))) → (b : ℕ)
+    → (bit_at (bit_or all (f (get_or ts k 0))) b ≡ 1) ↔ ((x : ℕ) × (start ≤ x) × (x < k + 1) × (bit_at (f (get_or ts x 0)) b ≡ 1))
 joined_step f ts all start k le h b =
     let o = or_iff all (f (get_or ts k 0)) b in (
       (λ z. ⊎_elim
@@ -34,7 +37,10 @@ with_bit m bit b within = ⊎_elim
     (cases_eq b bit)
 
 -- one word of one target has a bit more
-pub given_one : (old new : ℕ → ℕ → ℕ) (target number bit : ℕ) → bit < 32 → new target number ≡ bit_or (old target number) (1 * 2 ^ bit % 4294967296) → ((t v : ℕ) → (t ≡ target → v ≡ number → ⊥) → new t v ≡ old t v) → (t v b : ℕ) → (bit_at (new t v) b ≡ 1) ↔ ((bit_at (old t v) b ≡ 1) ⊎ ((t ≡ target) × (v ≡ number) × (b ≡ bit)))
+pub given_one : (old new : ℕ → ℕ → ℕ) (target number bit : ℕ) → bit < 32
+    → new target number ≡ bit_or (old target number) (1 * 2 ^ bit % 4294967296)
+    → ((t v : ℕ) → (t ≡ target → v ≡ number → ⊥) → new t v ≡ old t v) → (t v b : ℕ)
+    → (bit_at (new t v) b ≡ 1) ↔ ((bit_at (old t v) b ≡ 1) ⊎ ((t ≡ target) × (v ≡ number) × (b ≡ bit)))
 given_one old new target number bit within here apart t v b = ⊎_elim
     (λ (e : t ≡ target). ⊎_elim
     (λ (f : v ≡ number).
@@ -50,7 +56,9 @@ given_one old new target number bit within here apart t v b = ⊎_elim
     (cases_eq t target)
   where
     other : (t ≡ target → v ≡ number → ⊥) → (bit_at (new t v) b ≡ 1) ↔ ((bit_at (old t v) b ≡ 1) ⊎ ((t ≡ target) × (v ≡ number) × (b ≡ bit)))
-    other differ = ((λ z. inl (ap (λ y. bit_at y b) (sym (apart t v differ)) ∙ z)), (λ z. ap (λ y. bit_at y b) (apart t v differ) ∙ ⊎_elim (λ (q : bit_at (old t v) b ≡ 1). q) (λ (q : (t ≡ target) × (v ≡ number) × (b ≡ bit)). absurd (differ q.0 q.1)) z))
+    other differ = ((λ z. inl (ap (λ y. bit_at y b) (sym (apart t v differ)) ∙ z)),
+        (λ z. ap (λ y. bit_at y b) (apart t v differ) ∙ ⊎_elim (λ (q : bit_at (old t v) b ≡ 1). q)
+        (λ (q : (t ≡ target) × (v ≡ number) × (b ≡ bit)). absurd (differ q.0 q.1)) z))
 
 pub full_mask : (m : ℕ) → m ≡ 4294967295 → (b : ℕ) → b < 32 → bit_at m b ≡ 1
 full_mask m e b lt = ap (λ z. bit_at z b) e ∙ bit_at_ones 32 b lt

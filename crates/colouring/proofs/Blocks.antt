@@ -14,7 +14,11 @@ block_is size b q le lt =
     subst (λ z. z / size ≡ b) e (div-mul-add b size (q - b * size) (omega arith))
 
 -- the places of one block more have their colours
-pub within_more : (table : List ℕ) (w size places b first last : ℕ) (old new : List ℕ) → 0 < size → first ≡ b * size → last ≡ min (b * size + size) places → ((p : ℕ) → first ≤ p → p < last → IsLeast (MeetFrom table w first) new p) → ((q : ℕ) → (first ≤ q → q < last → ⊥) → get_or new q 0 ≡ get_or old q 0) → ((p : ℕ) → p < b * size → p < places → IsLeast (MeetWithin table w size) old p) → (p : ℕ) → p < (b + 1) * size → p < places → IsLeast (MeetWithin table w size) new p
+pub within_more : (table : List ℕ) (w size places b first last : ℕ) (old new : List ℕ) → 0 < size → first ≡ b * size
+    → last ≡ min (b * size + size) places → ((p : ℕ) → first ≤ p → p < last → IsLeast (MeetFrom table w first) new p)
+    → ((q : ℕ) → (first ≤ q → q < last → ⊥) → get_or new q 0 ≡ get_or old q 0)
+    → ((p : ℕ) → p < b * size → p < places → IsLeast (MeetWithin table w size) old p) → (p : ℕ) → p < (b + 1) * size → p < places
+    → IsLeast (MeetWithin table w size) new p
 within_more table w size places b first last old new some ef el least others inv p lt lp =
     let next : (b + 1) * size ≡ b * size + 1 * size = add-mul b 1 size in
     ⊎_elim

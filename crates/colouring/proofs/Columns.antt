@@ -27,7 +27,10 @@ some_factor i a zero h = absurd (omega arith)
 some_factor i a (suc b) h = omega arith
 
 -- one column more
-pub column_more : (map : ℕ) (args : List IncArg) (starts : List ℕ) (n k : ℕ) (d x : IncArg) → n < length args → IsColumn map (get_or starts n 0) n (get_or args n d) → ((j : ℕ) (y : IncArg) → j < n → IsColumn map (get_or starts j 0) j (get_or args j y)) → k < n + 1 → IsColumn map (get_or starts k 0) k (get_or args k x)
+pub column_more : (map : ℕ) (args : List IncArg) (starts : List ℕ) (n k : ℕ) (d x : IncArg) → n < length args
+    → IsColumn map (get_or starts n 0) n (get_or args n d)
+    → ((j : ℕ) (y : IncArg) → j < n → IsColumn map (get_or starts j 0) j (get_or args j y)) → k < n + 1
+    → IsColumn map (get_or starts k 0) k (get_or args k x)
 column_more map args starts n k d x l now before lt = ⊎_elim
     (λ (e : k ≡ n). subst (λ j. IsColumn map (get_or starts j 0) j (get_or args j x)) (sym e) (now.0, ap (λ (a : IncArg). a.via) (get_or_default args n x d l) ∙ now.1))
     (λ (ne : k ≡ n → ⊥). before k x (omega arith))
@@ -35,15 +38,20 @@ column_more map args starts n k d x l now before lt = ⊎_elim
 
 module _ (g : MeshValue) (r : RankMesh) (args : List IncArg) (places : ℕ) (is : IsRankOf g r) (k : AreArgs g r.sets.items places args) where
   -- each place's targets are elements that the rank has
-  pub all_within : ((d : ℕ) → d < dat_count g → IsDatAt g d) → (p a : ℕ) (x : IncArg) → p < places → a < length args → target_of g r.maps.items p (get_or args a x) < copies_of g r.sets.items (get_or args a x).dat
-  all_within dats p a x lp la = target_within g r is (get_or args a x) p k.set (dats (get_or args a x).dat (k.each a x la).dat).set (k.each a x la) (let e : places ≤ executed_in r.sets.items k.set = k.executed (omega arith) in omega arith)
+  pub all_within : ((d : ℕ) → d < dat_count g → IsDatAt g d) → (p a : ℕ) (x : IncArg) → p < places → a < length args
+      → target_of g r.maps.items p (get_or args a x) < copies_of g r.sets.items (get_or args a x).dat
+  all_within dats p a x lp la = target_within g r is (get_or args a x) p k.set (dats (get_or args a x).dat (k.each a x la).dat).set
+      (k.each a x la) (let e : places ≤ executed_in r.sets.items k.set = k.executed (omega arith) in omega arith)
 
   -- the colours of a table of the numbers are those of places and blocks
-  pub rows_are : ((d : ℕ) → d < dat_count g → IsDatAt g d) → (starts table : List ℕ) (total size : ℕ) (c : Colours) → AreStarts (copies_of g r.sets.items) args starts total → IsTable g r.maps.items args starts places table → AreRowColours table (length args) places size c → AreColours g r.maps.items args places size c
+  pub rows_are : ((d : ℕ) → d < dat_count g → IsDatAt g d) → (starts table : List ℕ) (total size : ℕ) (c : Colours)
+      → AreStarts (copies_of g r.sets.items) args starts total → IsTable g r.maps.items args starts places table
+      → AreRowColours table (length args) places size c → AreColours g r.maps.items args places size c
   rows_are dats starts table total size c s t h = are_colours g r.maps.items args places total (copies_of g r.sets.items) starts table s t (all_within dats) size c h.count h.long h.blocks h.inner
 
   -- the map's targets as they are read
-  pub targets_are : (starts : List ℕ) (map : ℕ) → AreColumns g args starts map → (v : Vec ℕ Global) (targets : List ℕ) → v ≡ get_or r.maps.items map v → targets ≡ v.items → targets ≡ row r.maps.items map
+  pub targets_are : (starts : List ℕ) (map : ℕ) → AreColumns g args starts map → (v : Vec ℕ Global) (targets : List ℕ)
+      → v ≡ get_or r.maps.items map v → targets ≡ v.items → targets ≡ row r.maps.items map
   targets_are starts map columns v targets e t = t ∙ row_read r.maps.items map v (rw is.maps_count columns.within) e
 
   -- the map's table
@@ -71,7 +79,9 @@ module _ (g : MeshValue) (r : RankMesh) (args : List IncArg) (places : ℕ) (is 
     }
 
   -- each number of a table is below the total
-  pub table_below : ((d : ℕ) → d < dat_count g → IsDatAt g d) → (starts table : List ℕ) (total : ℕ) → AreStarts (copies_of g r.sets.items) args starts total → IsTable g r.maps.items args starts places table → (i : ℕ) → i < length table → get_or table i 0 < total
+  pub table_below : ((d : ℕ) → d < dat_count g → IsDatAt g d) → (starts table : List ℕ) (total : ℕ)
+      → AreStarts (copies_of g r.sets.items) args starts total → IsTable g r.maps.items args starts places table → (i : ℕ)
+      → i < length table → get_or table i 0 < total
   table_below dats starts table total s t i l =
       let w = length args in
       let fits : i < places * w = omega (arith, l, t.count) in

@@ -11,7 +11,8 @@ use Rattle.colouring.specs.Meeting.{Has, IsMet, Meet, SomeMeet, Marked}
 -- ---- rows in order
 
 -- rows from the first up to the last are among them, in any order
-pub row_there : (xs ys : List ℕ) (first last now row : ℕ) → first + length xs ≡ now → last ≤ now → ((a : ℕ) → a < length xs → get_or xs a 0 ≡ first + a) → IsPermutation xs ys → first ≤ row → row < last → Contains ys row
+pub row_there : (xs ys : List ℕ) (first last now row : ℕ) → first + length xs ≡ now → last ≤ now
+    → ((a : ℕ) → a < length xs → get_or xs a 0 ≡ first + a) → IsPermutation xs ys → first ≤ row → row < last → Contains ys row
 row_there xs ys first last now row n l rows p low high =
     let k : ℕ = row - first in
     let lk : k < length xs = omega arith in
@@ -19,7 +20,9 @@ row_there xs ys first last now row n l rows p low high =
     Contains-permutation xs ys row p (k, lk, e)
 
 -- each of them is one
-pub rows_are : (xs ys : List ℕ) (first last now : ℕ) → first + length xs ≡ now → now ≤ last → ((a : ℕ) → a < length xs → get_or xs a 0 ≡ first + a) → IsPermutation xs ys → (a : ℕ) → a < length ys → (first ≤ get_or ys a 0) × (get_or ys a 0 < last)
+pub rows_are : (xs ys : List ℕ) (first last now : ℕ) → first + length xs ≡ now → now ≤ last
+    → ((a : ℕ) → a < length xs → get_or xs a 0 ≡ first + a) → IsPermutation xs ys → (a : ℕ) → a < length ys → (first ≤ get_or ys a 0)
+    × (get_or ys a 0 < last)
 rows_are xs ys first last now n l rows p a la =
     subst (λ z. (first ≤ z) × (z < last)) refl
     (All-permutation (λ x. (first ≤ x) × (x < last)) xs ys p
@@ -53,7 +56,8 @@ seen_less ts start k t s other =
 pub none_seen : (ts : List ℕ) (start row : ℕ) (old : List ℕ) → AreMarked ts start start row old old
 none_seen ts start row old t l = inr (λ s. (let a : start ≤ s.0 = s.1 in let b : s.0 < start = s.2 in omega arith), refl)
 
-pub one_more_marked : (ts : List ℕ) (start k row : ℕ) (old now : List ℕ) → start ≤ k → get_or ts k 0 < length old → length now ≡ length old → AreMarked ts start k row old now → AreMarked ts start (k + 1) row old (set now (get_or ts k 0) row)
+pub one_more_marked : (ts : List ℕ) (start k row : ℕ) (old now : List ℕ) → start ≤ k → get_or ts k 0 < length old → length now ≡ length old
+    → AreMarked ts start k row old now → AreMarked ts start (k + 1) row old (set now (get_or ts k 0) row)
 one_more_marked ts start k row old now from within long m t l =
     let u : ℕ = get_or ts k 0 in
     let lu : u < length now = omega arith in
@@ -68,14 +72,17 @@ one_more_marked ts start k row old now from within long m t l =
     (cases_eq t u)
 
 -- the mark that is looked at is of the row itself, or as before
-pub met_before : (ts cs : List ℕ) (start k first row t : ℕ) (old now : List ℕ) → t < length old → AreMarked ts start k row old now → IsMet cs first row (get_or now t 0) → IsMet cs first row (get_or old t 0)
+pub met_before : (ts cs : List ℕ) (start k first row t : ℕ) (old now : List ℕ) → t < length old → AreMarked ts start k row old now
+    → IsMet cs first row (get_or now t 0) → IsMet cs first row (get_or old t 0)
 met_before ts cs start k first row t old now l m h = ⊎_elim
     (λ (s : Seen ts start k t × (get_or now t 0 ≡ row)). absurd (h.2 s.1))
     (λ (s : (Seen ts start k t → ⊥) × (get_or now t 0 ≡ get_or old t 0)). subst (IsMet cs first row) s.1 h)
     (m t l)
 
 -- none is met, with one place more
-pub none_met_more : (ts cs : List ℕ) (start k first row : ℕ) (old now : List ℕ) → get_or ts k 0 < length old → AreMarked ts start k row old now → ((t : ℕ) → Seen ts start k t → IsMet cs first row (get_or old t 0) → ⊥) → (IsMet cs first row (get_or now (get_or ts k 0) 0) → ⊥) → (t : ℕ) → Seen ts start (k + 1) t → IsMet cs first row (get_or old t 0) → ⊥
+pub none_met_more : (ts cs : List ℕ) (start k first row : ℕ) (old now : List ℕ) → get_or ts k 0 < length old
+    → AreMarked ts start k row old now → ((t : ℕ) → Seen ts start k t → IsMet cs first row (get_or old t 0) → ⊥)
+    → (IsMet cs first row (get_or now (get_or ts k 0) 0) → ⊥) → (t : ℕ) → Seen ts start (k + 1) t → IsMet cs first row (get_or old t 0) → ⊥
 none_met_more ts cs start k first row old now within m before other t s h = ⊎_elim
     (λ (e : t ≡ get_or ts k 0). (
     let u : ℕ = get_or ts k 0 in
@@ -88,7 +95,9 @@ none_met_more ts cs start k first row old now within m before other t s h = ⊎_
     (cases_eq t (get_or ts k 0))
 
 -- a mark is none or of a row
-pub mark_of_row : (ts : List ℕ) (start k row t n : ℕ) (old now : List ℕ) → t < length old → row < n → ((u : ℕ) → u < length old → (get_or old u 0 ≡ none) ⊎ (get_or old u 0 < n)) → AreMarked ts start k row old now → (get_or now t 0 ≡ none) ⊎ (get_or now t 0 < n)
+pub mark_of_row : (ts : List ℕ) (start k row t n : ℕ) (old now : List ℕ) → t < length old → row < n
+    → ((u : ℕ) → u < length old → (get_or old u 0 ≡ none) ⊎ (get_or old u 0 < n)) → AreMarked ts start k row old now
+    → (get_or now t 0 ≡ none) ⊎ (get_or now t 0 < n)
 mark_of_row ts start k row t n old now l below h m = ⊎_elim
     (λ (s : Seen ts start k t × (get_or now t 0 ≡ row)). inr (subst (λ z. z < n) (sym s.1) below))
     (λ (s : (Seen ts start k t → ⊥) × (get_or now t 0 ≡ get_or old t 0)). subst (λ z. (z ≡ none) ⊎ (z < n)) (sym s.1) (h t l))
@@ -109,7 +118,9 @@ has_seen ts w row start end t es ee h =
     (h.0, omega arith, omega arith, h.2)
 
 -- the marks of a whole row
-pub row_marked : (ts : List ℕ) (w row start end : ℕ) (old now : List ℕ) → start ≡ min (row * w) (length ts) → end ≡ min (row * w + w) (length ts) → AreMarked ts start end row old now → (t : ℕ) → t < length old → (Has ts w row t × (get_or now t 0 ≡ row)) ⊎ ((Has ts w row t → ⊥) × (get_or now t 0 ≡ get_or old t 0))
+pub row_marked : (ts : List ℕ) (w row start end : ℕ) (old now : List ℕ) → start ≡ min (row * w) (length ts)
+    → end ≡ min (row * w + w) (length ts) → AreMarked ts start end row old now → (t : ℕ) → t < length old
+    → (Has ts w row t × (get_or now t 0 ≡ row)) ⊎ ((Has ts w row t → ⊥) × (get_or now t 0 ≡ get_or old t 0))
 row_marked ts w row start end old now es ee m t l = ⊎_elim
     (λ (s : Seen ts start end t × (get_or now t 0 ≡ row)). inl (seen_has ts w row start end t es ee s.0, s.1))
     (λ (s : (Seen ts start end t → ⊥) × (get_or now t 0 ≡ get_or old t 0)). inr ((λ h. s.0 (has_seen ts w row start end t es ee h)), s.1))

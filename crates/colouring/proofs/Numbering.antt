@@ -20,7 +20,10 @@ use Rattle.colouring.specs.Colours.{target_of, target_by, Leads, IsArg}
 use Rattle.colouring.specs.Table.{copies_of, IsRankOf, HaveBases, IsTable}
 
 -- one argument more has the base of its dat
-pub have_more : (args : List IncArg) (starts old now : List ℕ) (n v dat : ℕ) → length starts ≡ n → ((x : IncArg) → (get_or args n x).dat ≡ dat) → v ≡ get_or now dat 0 → ((d : ℕ) → (get_or old d 0 ≡ none → ⊥) → get_or now d 0 ≡ get_or old d 0) → (get_or now dat 0 ≡ none → ⊥) → HaveBases args starts old n → HaveBases args (starts ++ v ∷ []) now (n + 1)
+pub have_more : (args : List IncArg) (starts old now : List ℕ) (n v dat : ℕ) → length starts ≡ n
+    → ((x : IncArg) → (get_or args n x).dat ≡ dat) → v ≡ get_or now dat 0
+    → ((d : ℕ) → (get_or old d 0 ≡ none → ⊥) → get_or now d 0 ≡ get_or old d 0) → (get_or now dat 0 ≡ none → ⊥)
+    → HaveBases args starts old n → HaveBases args (starts ++ v ∷ []) now (n + 1)
 have_more args starts old now n v dat e is_dat read kept given h a x l = ⊎_elim
     (λ (s : a ≡ n).
     let d : (get_or args a x).dat ≡ dat = ap (λ z. (get_or args z x).dat) s ∙ is_dat x in
@@ -33,7 +36,8 @@ have_more args starts old now n v dat e is_dat read kept given h a x l = ⊎_eli
     (cases_eq a n)
 
 -- an entry of an executed element stands in the table
-pub entry_in : (g : MeshValue) (sets : List LocalSet) (m p i s : ℕ) (table : List ℕ) → AreLocalTargets g m sets table → map_from g m ≡ s → p < executed_in sets s → i < map_dim g m → p * map_dim g m + i < length table
+pub entry_in : (g : MeshValue) (sets : List LocalSet) (m p i s : ℕ) (table : List ℕ) → AreLocalTargets g m sets table → map_from g m ≡ s
+    → p < executed_in sets s → i < map_dim g m → p * map_dim g m + i < length table
 entry_in g sets m p i s table t e l li =
     let h : p * map_dim g m + i < map_dim g m * executed_in sets (map_from g m) = mul-add-lt p (map_dim g m) i (executed_in sets (map_from g m)) (rw e l) li in
     omega (arith, t.count, h)
@@ -45,13 +49,20 @@ pub read_copies : (sets : List LocalSet) (i s : ℕ) (x : LocalSet) (now : List 
 read_copies sets i s x now e l r f = f ∙ (ap (λ (z : LocalSet). z.original) r ∙ (ap (λ z. (get_or sets z x).original) e ∙ sym (originals_at sets s x l)))
 
 -- the table of one place more
-pub table_grows : (g : MeshValue) (maps : List (Vec ℕ Global)) (args : List IncArg) (starts : List ℕ) (n : ℕ) (old now : List ℕ) → IsTable g maps args starts n old → length now ≡ length old + length args → ((k : ℕ) → k < length old → get_or now k 0 ≡ get_or old k 0) → ((a : ℕ) (x : IncArg) → a < length args → get_or now (length old + a) 0 ≡ get_or starts a 0 + target_of g maps n (get_or args a x)) → IsTable g maps args starts (n + 1) now
+pub table_grows : (g : MeshValue) (maps : List (Vec ℕ Global)) (args : List IncArg) (starts : List ℕ) (n : ℕ) (old now : List ℕ)
+    → IsTable g maps args starts n old → length now ≡ length old + length args
+    → ((k : ℕ) → k < length old → get_or now k 0 ≡ get_or old k 0)
+    → ((a : ℕ) (x : IncArg) → a < length args → get_or now (length old + a) 0 ≡ get_or starts a 0 + target_of g maps n (get_or args a x))
+    → IsTable g maps args starts (n + 1) now
 table_grows g maps args starts n old now t more before new = record {
   count = (let e : length old ≡ n * length args = t.count in let f : length now ≡ length old + length args = more in omega arith);
-  at = λ p a x lp la. table_more now old n (length args) (λ k i. get_or starts i 0 + target_of g maps k (get_or args i x)) t.count before (λ i li. new i x li) (λ k i lk li. t.at k i x lk li) p a lp la;
+  at = λ p a x lp la. table_more now old n (length args) (λ k i. get_or starts i 0 + target_of g maps k (get_or args i x)) t.count before
+      (λ i li. new i x li) (λ k i lk li. t.at k i x lk li) p a lp la;
 }
 
-pub all_below_more : (old now : List ℕ) (total m : ℕ) → length now ≡ length old + m → ((k : ℕ) → k < length old → get_or now k 0 ≡ get_or old k 0) → ((a : ℕ) → a < m → get_or now (length old + a) 0 < total) → ((k : ℕ) → k < length old → get_or old k 0 < total) → (k : ℕ) → k < length now → get_or now k 0 < total
+pub all_below_more : (old now : List ℕ) (total m : ℕ) → length now ≡ length old + m
+    → ((k : ℕ) → k < length old → get_or now k 0 ≡ get_or old k 0) → ((a : ℕ) → a < m → get_or now (length old + a) 0 < total)
+    → ((k : ℕ) → k < length old → get_or old k 0 < total) → (k : ℕ) → k < length now → get_or now k 0 < total
 all_below_more old now total m more before new inv k lk = ⊎_elim
     (λ (l : k < length old). rw (before k l) (inv k l))
     (λ (l : length old ≤ k).
@@ -60,7 +71,8 @@ all_below_more old now total m more before new inv k lk = ⊎_elim
     (cases_lt k (length old))
 
 -- the local element into which an executed place reduces is one that the rank has
-pub target_within : (g : MeshValue) (r : RankMesh) → IsRankOf g r → (x : IncArg) (p s : ℕ) → dat_set g x.dat < set_count g → IsArg g s x → p < executed_in r.sets.items s → target_of g r.maps.items p x < copies_of g r.sets.items x.dat
+pub target_within : (g : MeshValue) (r : RankMesh) → IsRankOf g r → (x : IncArg) (p s : ℕ) → dat_set g x.dat < set_count g → IsArg g s x
+    → p < executed_in r.sets.items s → target_of g r.maps.items p x < copies_of g r.sets.items x.dat
 target_within g r is x p s ls arg lp = at x.via arg.leads
   where
     at : (v : Option Via) → Leads g s (dat_set g x.dat) v → target_by g r.maps.items p v < copies_of g r.sets.items x.dat

@@ -26,7 +26,9 @@ after_mid a k xs ys q h l le =
 pub least_kept : (R : ℕ → ℕ → Type 0) (old now : List ℕ) (p : ℕ) → ((q : ℕ) → q ≤ p → get_or now q 0 ≡ get_or old q 0) → IsLeast R old p → IsLeast R now p
 least_kept R old now p same l = record {
   free = λ q lt r e. l.free q lt r (sym (same q (omega arith)) ∙ (e ∙ same p (omega arith)));
-  taken = λ c lt. (let t : (q : ℕ) × (q < p) × R q p × (get_or old q 0 ≡ c) = l.taken c (let e : get_or now p 0 ≡ get_or old p 0 = same p (omega arith) in omega arith) in let tl : t.0 < p = t.1 in (t.0, t.1, t.2, same t.0 (omega arith) ∙ t.3));
+  taken = λ c lt. (let t : (q : ℕ) × (q < p) × R q p × (get_or old q 0 ≡ c) =
+      l.taken c (let e : get_or now p 0 ≡ get_or old p 0 = same p (omega arith) in omega arith) in let tl : t.0 < p = t.1 in
+      (t.0, t.1, t.2, same t.0 (omega arith) ∙ t.3));
 }
 
 pub least_same : (R S : ℕ → ℕ → Type 0) (cs : List ℕ) (p : ℕ) → ((q : ℕ) → q < p → R q p → S q p) → ((q : ℕ) → q < p → S q p → R q p) → IsLeast R cs p → IsLeast S cs p
@@ -36,7 +38,8 @@ least_same R S cs p to from l = record {
 }
 
 -- rows of a part of the table
-module _ (table here : List ℕ) (w first last : ℕ) (count : length here ≡ last * w - first * w) (read : (k : ℕ) → k < length here → get_or here k 0 ≡ get_or table (first * w + k) 0) (fits : last * w ≤ length table) where
+module _ (table here : List ℕ) (w first last : ℕ) (count : length here ≡ last * w - first * w)
+    (read : (k : ℕ) → k < length here → get_or here k 0 ≡ get_or table (first * w + k) 0) (fits : last * w ≤ length table) where
   row_of : (q : ℕ) → (first + q) * w ≡ first * w + q * w
   row_of q = add-mul first q w
 

@@ -15,16 +15,21 @@ use Rattle.colouring.specs.Colours.{target_of, target_by, reached_by, Conflict, 
 use Rattle.colouring.specs.Table.{IsRankOf}
 use Rattle.colouring.proofs.Numbering.{rank_is, target_within}
 
-module _ (distinct : OriginalsAreDistinct) (g : MeshValue) (o : Owners) (p : Perms) (r : ℕ) (m : RankMesh) (perms : ArePerms g p) (dats : (d : ℕ) → d < dat_count g → IsDatAt g d) (is : IsRankMesh g o p r m) where
+module _ (distinct : OriginalsAreDistinct) (g : MeshValue) (o : Owners) (p : Perms) (r : ℕ) (m : RankMesh) (perms : ArePerms g p)
+    (dats : (d : ℕ) → d < dat_count g → IsDatAt g d) (is : IsRankMesh g o p r m) where
   -- the target's original number
-  at_target : (s t x : ℕ) (v : Option Via) → Leads g s t v → x < executed_in m.sets.items s → get_or (originals_in m.sets.items t) (target_by g m.maps.items x v) 0 ≡ reached_by g (get_or (originals_in m.sets.items s) x 0) v
+  at_target : (s t x : ℕ) (v : Option Via) → Leads g s t v → x < executed_in m.sets.items s
+      → get_or (originals_in m.sets.items t) (target_by g m.maps.items x v) 0 ≡ reached_by g (get_or (originals_in m.sets.items s) x 0) v
   at_target s t x None e l = ap (λ z. get_or (originals_in m.sets.items z) x 0) e
   at_target s t x (Some v) e l =
       ap (λ z. get_or (originals_in m.sets.items z) (get_or (row m.maps.items v.map) (x * map_dim g v.map + v.index) 0) 0) (sym e.3)
       ∙ ((is.maps v.map e.0).targets x v.index (rw e.2 l) e.1
       ∙ ap (λ z. target g v.map (get_or (originals_in m.sets.items z) x 0) v.index) e.2)
 
-  pub reached_conflict : (args : List IncArg) (places : ℕ) (a : AreArgs g m.sets.items places args) (x y : IncArg) (e f : ℕ) → Contains args x → Contains args y → x.dat ≡ y.dat → e < places → f < places → reached_by g (get_or (originals_in m.sets.items a.set) e 0) x.via ≡ reached_by g (get_or (originals_in m.sets.items a.set) f 0) y.via → Conflict g m.maps.items args e f
+  pub reached_conflict : (args : List IncArg) (places : ℕ) (a : AreArgs g m.sets.items places args) (x y : IncArg) (e f : ℕ)
+      → Contains args x → Contains args y → x.dat ≡ y.dat → e < places → f < places
+      → reached_by g (get_or (originals_in m.sets.items a.set) e 0) x.via ≡ reached_by g (get_or (originals_in m.sets.items a.set) f 0)
+      y.via → Conflict g m.maps.items args e f
   reached_conflict args places a x y e f cx cy d le lf same =
       let ix : IsArg g a.set x = subst (λ z. IsArg g a.set z) cx.2 (a.each cx.0 x cx.1) in
       let iy : IsArg g a.set y = subst (λ z. IsArg g a.set z) cy.2 (a.each cy.0 y cy.1) in

@@ -25,7 +25,10 @@ part_below c = mod_below c 32 (omega arith)
 
 -- the places of a row in the table
 pub row_bounds : (ts : List ℕ) (w p start stop : ℕ) → start ≡ min (p * w) (length ts) → stop ≡ min (p * w + w) (length ts) → (k : ℕ) → ((start ≤ k) × (k < stop)) ↔ In ts w p k
-row_bounds ts w p start stop es et k = ((λ (h : (start ≤ k) × (k < stop)). (let a : start ≤ k = h.0 in let b : k < stop = h.1 in (omega arith, omega arith, omega arith))), (λ (h : In ts w p k). (let a : p * w ≤ k = h.0 in let b : k < p * w + w = h.1 in let d : k < length ts = h.2 in (omega arith, omega arith))))
+row_bounds ts w p start stop es et k =
+    ((λ (h : (start ≤ k) × (k < stop)). (let a : start ≤ k = h.0 in let b : k < stop = h.1 in (omega arith, omega arith, omega arith))),
+    (λ (h : In ts w p k). (let a : p * w ≤ k = h.0 in let b : k < p * w + w = h.1 in let d : k < length ts = h.2 in
+    (omega arith, omega arith))))
 
 -- what is passed over stays so with more colours
 pub sound_more : (m n : Masks) → n.passed ≡ m.passed → ((t v b : ℕ) → b < 32 → Has m t v b → Has n t v b) → IsSound m → IsSound n
@@ -52,10 +55,14 @@ clear_tell ts w cs m z t v b tl bl = (
 pub least_row : (ts : List ℕ) (w : ℕ) (old now : List ℕ) (p : ℕ) → ((q : ℕ) → q ≤ p → get_or now q 0 ≡ get_or old q 0) → Least ts w old p → Least ts w now p
 least_row ts w old now p same l = (
   (λ q lt x e. l.0 q lt x (sym (same q (omega arith)) ∙ (e ∙ same p (omega arith)))),
-  (λ c lt. (let t : (q : ℕ) × (q < p) × Conflict ts w q p × (get_or old q 0 ≡ c) = l.1 c (let e : get_or now p 0 ≡ get_or old p 0 = same p (omega arith) in omega arith) in let tl : t.0 < p = t.1 in (t.0, t.1, t.2, same t.0 (omega arith) ∙ t.3))),
+  (λ c lt. (let t : (q : ℕ) × (q < p) × Conflict ts w q p × (get_or old q 0 ≡ c) =
+      l.1 c (let e : get_or now p 0 ≡ get_or old p 0 = same p (omega arith) in omega arith) in let tl : t.0 < p = t.1 in
+      (t.0, t.1, t.2, same t.0 (omega arith) ∙ t.3))),
 )
 
-module _ (ts : List ℕ) (w : ℕ) (cs : List ℕ) (p : ℕ) (inside : p < length cs) (m : Masks) (told : Tell ts w cs p m) (start stop : ℕ) (bounds : (k : ℕ) → ((start ≤ k) × (k < stop)) ↔ In ts w p k) (targets : (k : ℕ) → k < length ts → get_or ts k 0 < length m.first.items) where
+module _ (ts : List ℕ) (w : ℕ) (cs : List ℕ) (p : ℕ) (inside : p < length cs) (m : Masks) (told : Tell ts w cs p m) (start stop : ℕ)
+    (bounds : (k : ℕ) → ((start ≤ k) × (k < stop)) ↔ In ts w p k) (targets : (k : ℕ) → k < length ts → get_or ts k 0 < length m.first.items)
+    where
   in_word : (k : ℕ) → In ts w p k → get_or ts k 0 < length m.first.items
   in_word k i = targets k i.2
 
@@ -107,7 +114,9 @@ module _ (ts : List ℕ) (w : ℕ) (cs : List ℕ) (p : ℕ) (inside : p < lengt
     )
 
     -- with the row's colour the masks tell of it too
-    pub row_told : (n : Masks) → length n.first.items ≡ length m.first.items → ((t v b : ℕ) → b < 32 → Has n t v b ↔ (Has m t v b ⊎ ((32 * v + b ≡ c) × ((k : ℕ) × (start ≤ k) × (k < stop) × (get_or ts k 0 ≡ t))))) → Tell ts w new (p + 1) n
+    pub row_told : (n : Masks) → length n.first.items ≡ length m.first.items
+        → ((t v b : ℕ) → b < 32 → Has n t v b ↔
+        (Has m t v b ⊎ ((32 * v + b ≡ c) × ((k : ℕ) × (start ≤ k) × (k < stop) × (get_or ts k 0 ≡ t))))) → Tell ts w new (p + 1) n
     row_told n count added t v b tl bl = (
       (λ h. ⊎_elim
           (λ (o : Has m t v b).

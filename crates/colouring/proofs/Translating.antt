@@ -13,7 +13,10 @@ use Rattle.colouring.specs.Colours.{target_of, Conflict, ConflictWithin, BlocksC
 use Rattle.colouring.specs.Table.{AreStarts, IsTable}
 use Rattle.colouring.proofs.Parts.{least_same}
 
-module _ (g : MeshValue) (maps : List (Vec ℕ Global)) (args : List IncArg) (places total : ℕ) (size : ℕ → ℕ) (starts table : List ℕ) (s : AreStarts size args starts total) (t : IsTable g maps args starts places table) (within : (p a : ℕ) (x : IncArg) → p < places → a < length args → target_of g maps p (get_or args a x) < size (get_or args a x).dat) where
+module _ (g : MeshValue) (maps : List (Vec ℕ Global)) (args : List IncArg) (places total : ℕ) (size : ℕ → ℕ) (starts table : List ℕ)
+    (s : AreStarts size args starts total) (t : IsTable g maps args starts places table)
+    (within : (p a : ℕ) (x : IncArg) → p < places → a < length args → target_of g maps p (get_or args a x) < size (get_or args a x).dat)
+    where
   first : IncArg
   first = record { dat = 0; via = None }
 
@@ -67,7 +70,10 @@ module _ (g : MeshValue) (maps : List (Vec ℕ Global)) (args : List IncArg) (pl
       let e : target_of g maps q x ≡ target_of g maps p y = k.5 in
       (q * length args + a, p * length args + b, in_row q a lq la, in_row p b lp lb, omega arith)
 
-  pub are_colours : (block : ℕ) (c : Colours) → ((b : ℕ) → (b < length c.blocks.items) ↔ (b * block < places)) → length c.inner.items ≡ places → ((b : ℕ) → b < length c.blocks.items → IsLeast (BlocksMeet table (length args) places block) c.blocks.items b) → ((p : ℕ) → p < places → IsLeast (MeetWithin table (length args) block) c.inner.items p) → AreColours g maps args places block c
+  pub are_colours : (block : ℕ) (c : Colours) → ((b : ℕ) → (b < length c.blocks.items) ↔ (b * block < places))
+      → length c.inner.items ≡ places →
+      ((b : ℕ) → b < length c.blocks.items → IsLeast (BlocksMeet table (length args) places block) c.blocks.items b)
+      → ((p : ℕ) → p < places → IsLeast (MeetWithin table (length args) block) c.inner.items p) → AreColours g maps args places block c
   are_colours block c count long blocks inner = record {
     blocks_count = count;
     inner_count = long;

@@ -7,7 +7,8 @@ use Rattle.std.proofs.lemmas.List.{get_or-set_same, get_or-set_other, get_or_def
 use Rattle.std.proofs.lemmas.Bool.{cases_eq, cases_lt, ne_eqb, and_left, and_right}
 
 -- what is kept of the words from a number on
-pub known_words : (o : Option ℕ) (P : ℕ → Type 0) (number r : ℕ) → r ≡ max (unwrap_or o number) number → ((n : ℕ) → o ≡ Some n → (u : ℕ) → number ≤ u → u < n → P u) → (u : ℕ) → number ≤ u → u < r → P u
+pub known_words : (o : Option ℕ) (P : ℕ → Type 0) (number r : ℕ) → r ≡ max (unwrap_or o number) number
+    → ((n : ℕ) → o ≡ Some n → (u : ℕ) → number ≤ u → u < n → P u) → (u : ℕ) → number ≤ u → u < r → P u
 known_words None P number r e h u le lt = absurd (let f : r ≡ max number number = e in omega arith)
 known_words (Some n) P number r e h u le lt = h n refl u le (let f : r ≡ max n number = e in omega arith)
 
@@ -35,7 +36,9 @@ key_two a b s t = ⊎_elim
     (cases_eq a s)
 
 -- what holds of all that is kept holds after one thing more is
-pub kept_words : (old new : ℕ × ℕ × ℕ → Option ℕ) (a b v n : ℕ) (P : ℕ → ℕ → ℕ → ℕ → Type 0) → new (a, b, v) ≡ Some n → ((q : ℕ × ℕ × ℕ) → ((nat_eq a q.0 && nat_eq b q.1) && nat_eq v q.2) ≡ false → new q ≡ old q) → P a b v n → ((s t u m : ℕ) → old (s, t, u) ≡ Some m → P s t u m) → (s t u m : ℕ) → new (s, t, u) ≡ Some m → P s t u m
+pub kept_words : (old new : ℕ × ℕ × ℕ → Option ℕ) (a b v n : ℕ) (P : ℕ → ℕ → ℕ → ℕ → Type 0) → new (a, b, v) ≡ Some n
+    → ((q : ℕ × ℕ × ℕ) → ((nat_eq a q.0 && nat_eq b q.1) && nat_eq v q.2) ≡ false → new q ≡ old q) → P a b v n
+    → ((s t u m : ℕ) → old (s, t, u) ≡ Some m → P s t u m) → (s t u m : ℕ) → new (s, t, u) ≡ Some m → P s t u m
 kept_words old new a b v n P here apart p h s t u m got = ⊎_elim
     (λ (e : (a ≡ s) × (b ≡ t) × (v ≡ u)).
     let at : new (a, b, v) ≡ Some m = subst (λ z. new (z, b, v) ≡ Some m) (sym e.0) (subst (λ z. new (s, z, v) ≡ Some m) (sym e.1) (subst (λ z. new (s, t, z) ≡ Some m) (sym e.2) got)) in
@@ -45,14 +48,20 @@ kept_words old new a b v n P here apart p h s t u m got = ⊎_elim
     (key_three a b v s t u)
 
 -- a word of a target where another is written
-word_left : (first : ℕ → ℕ) (old new : ℕ × ℕ → Option ℕ) (target number : ℕ) → ((q : ℕ × ℕ) → (nat_eq target q.0 && nat_eq number q.1) ≡ false → new q ≡ old q) → (t v : ℕ) → (t ≡ target → v ≡ number → ⊥) → cond (v == 0) (first t) (unwrap_or (new (t, v)) 0) ≡ cond (v == 0) (first t) (unwrap_or (old (t, v)) 0)
+word_left : (first : ℕ → ℕ) (old new : ℕ × ℕ → Option ℕ) (target number : ℕ)
+    → ((q : ℕ × ℕ) → (nat_eq target q.0 && nat_eq number q.1) ≡ false → new q ≡ old q) → (t v : ℕ) → (t ≡ target → v ≡ number → ⊥)
+    → cond (v == 0) (first t) (unwrap_or (new (t, v)) 0) ≡ cond (v == 0) (first t) (unwrap_or (old (t, v)) 0)
 word_left first old new target number apart t v differ = ⊎_elim
     (λ (e : (target ≡ t) × (number ≡ v)). absurd (differ (sym e.0) (sym e.1)))
     (λ (f : (nat_eq target t && nat_eq number v) ≡ false). ap (λ o. cond (v == 0) (first t) (unwrap_or o 0)) (apart (t, v) f))
     (key_two target number t v)
 
 -- a later word of a target, after one bit more is written
-pub given_later : (first : ℕ → ℕ) (old new : ℕ × ℕ → Option ℕ) (target number bit r : ℕ) → 0 < number → bit < 32 → r ≡ unwrap_or (old (target, number)) 0 → new (target, number) ≡ Some (bit_or r (1 * 2 ^ bit % 4294967296)) → ((q : ℕ × ℕ) → (nat_eq target q.0 && nat_eq number q.1) ≡ false → new q ≡ old q) → (t v b : ℕ) → (bit_at (cond (v == 0) (first t) (unwrap_or (new (t, v)) 0)) b ≡ 1) ↔ ((bit_at (cond (v == 0) (first t) (unwrap_or (old (t, v)) 0)) b ≡ 1) ⊎ ((t ≡ target) × (v ≡ number) × (b ≡ bit)))
+pub given_later : (first : ℕ → ℕ) (old new : ℕ × ℕ → Option ℕ) (target number bit r : ℕ) → 0 < number → bit < 32
+    → r ≡ unwrap_or (old (target, number)) 0 → new (target, number) ≡ Some (bit_or r (1 * 2 ^ bit % 4294967296))
+    → ((q : ℕ × ℕ) → (nat_eq target q.0 && nat_eq number q.1) ≡ false → new q ≡ old q) → (t v b : ℕ)
+    → (bit_at (cond (v == 0) (first t) (unwrap_or (new (t, v)) 0)) b ≡ 1) ↔
+    ((bit_at (cond (v == 0) (first t) (unwrap_or (old (t, v)) 0)) b ≡ 1) ⊎ ((t ≡ target) × (v ≡ number) × (b ≡ bit)))
 given_later first old new target number bit r some within e here apart = given_one
     (λ t v. cond (v == 0) (first t) (unwrap_or (old (t, v)) 0))
     (λ t v. cond (v == 0) (first t) (unwrap_or (new (t, v)) 0))
@@ -86,7 +95,8 @@ module _ (items : List ℕ) (later : ℕ × ℕ → Option ℕ) (target number b
       (λ (f : v ≡ 0 → ⊥). at_later changed t v f ∙ sym (at_later items t v f))
       (cases_eq v 0)
 
-  pub given_first : number ≤ 0 → bit < 32 → target < length items → r ≡ get_or items target r → (t v b : ℕ) → (bit_at (word changed t v) b ≡ 1) ↔ ((bit_at (word items t v) b ≡ 1) ⊎ ((t ≡ target) × (v ≡ number) × (b ≡ bit)))
+  pub given_first : number ≤ 0 → bit < 32 → target < length items → r ≡ get_or items target r → (t v b : ℕ)
+      → (bit_at (word changed t v) b ≡ 1) ↔ ((bit_at (word items t v) b ≡ 1) ⊎ ((t ≡ target) × (v ≡ number) × (b ≡ bit)))
   given_first low within inside e =
       let f : number ≡ 0 = omega arith in
       given_one (word items) (word changed) target number bit within

@@ -110,7 +110,8 @@ few_short c again (Some a) rest h next f =
     few_if (takes_values a) _ _ (few_opt c again a (attached_value rest) h)
     (few_or (Faults.react_fault c again a [] h) (next (reacted c a [] h)) (few_react c again a [] h) (f (reacted c a [] h)))
 
-few_bundle_step : (c : List Rule) (again : Bool) (o : Option ℕ) (flags : Text) (skip : ℕ) (h : Held) (next : Text → ℕ → Held → Kinds) → ((t : Text) (k : ℕ) (g : Held) → Few (next t k g)) → Few (Faults.bundle_step_fault c again o flags skip h next)
+few_bundle_step : (c : List Rule) (again : Bool) (o : Option ℕ) (flags : Text) (skip : ℕ) (h : Held) (next : Text → ℕ → Held → Kinds)
+    → ((t : Text) (k : ℕ) (g : Held) → Few (next t k g)) → Few (Faults.bundle_step_fault c again o flags skip h next)
 few_bundle_step c again None flags skip h next f = tt
 few_bundle_step c again (Some x) flags zero h next f =
     few_short c again (arg_by_short c x) (drop (length (encode_utf8 x)) flags) h (next (drop (length (encode_utf8 x)) flags) 0) (f (drop (length (encode_utf8 x)) flags) 0)

@@ -50,7 +50,8 @@ number_is most n true e = let h = and_parts (nat_lt 0 n) (not (nat_lt most n)) e
 number_is most n false e = tt
 
 number_holds : (most : ℕ) (word : List ℕ) → Holds (IsTo most) (number_to most word)
-number_holds most word = holds_then Any (IsTo most) (λ n. if nat_lt 0 n && not (nat_lt most n) then Some n else None) (number_of word) (any (number_of word)) (λ n h. number_is most n (nat_lt 0 n && not (nat_lt most n)) refl)
+number_holds most word = holds_then Any (IsTo most) (λ n. if nat_lt 0 n && not (nat_lt most n) then Some n else None) (number_of word)
+    (any (number_of word)) (λ n h. number_is most n (nat_lt 0 n && not (nat_lt most n)) refl)
 
 or_holds : (usual most : ℕ) (word : Option (List ℕ)) → IsTo most usual → Holds (IsTo most) (number_or usual most word)
 or_holds usual most None h = h

@@ -36,7 +36,8 @@ listed_text f p n old now new is more =
     ∙ ap (λ z. old ++ z) (ap (λ z. flat_map f (listed n p) ++ z) (sym (one_listed f (p n) n)) ∙ sym (flat_map-append f (listed n p) (cond (p n) (n ∷ []) [])) ∙ ap (flat_map f) (sym (listed_more n p)))
 
 -- a pair's cells in a memory are its values
-pub pair_values_are : (b : BoundValue) (o : Owners) (memory : List ℤ) (st : ChainState KernelFault) → StoresStand b o memory st → (r d y from dim : ℕ) → r < o.ranks → d < dat_count b.mesh → y < set_size b.mesh (dat_set b.mesh d)
+pub pair_values_are : (b : BoundValue) (o : Owners) (memory : List ℤ) (st : ChainState KernelFault) → StoresStand b o memory st
+    → (r d y from dim : ℕ) → r < o.ranks → d < dat_count b.mesh → y < set_size b.mesh (dat_set b.mesh d)
     → from ≡ in_block b r (cell_in (Element d y) 0) → dim ≡ dat_dim b.mesh d → from + dim ≤ length memory
     → (values : List ℤ) → length values ≡ dim → ((i : ℕ) → i < dim → get_or values i (pos 0) ≡ get_or memory (from + i) (pos 0))
     → values ≡ map (value_in (st.stores r d y)) (numbers (dat_dim b.mesh d))

@@ -78,19 +78,28 @@ module _ (modes : List Mode) (ts us : List Target) (aliases : SameStoredAliases 
         }
 
     -- the shape stays, and the rest is given
-    reshaped : (after : Assigned) → ((b j : ℕ) → j < dim modes b → Known modes after b j → read_arg ts (store_arg ts s a i x) b j ≡ read_arg us (store_arg us t a i y) b j) → ((r : Reduction) (b j : ℕ) → j < dim modes b → Alone modes r ts b j → Amount r (store_arg ts s a i x) (store_arg us t a i y) b j) → ((b j : ℕ) → j < dim modes b → OnlyReduced modes ts b j → read_arg ts s0 b j ≡ read_arg us t0 b j → read_arg ts (store_arg ts s a i x) b j ≡ read_arg us (store_arg us t a i y) b j) → Agrees after (store_arg ts s a i x) (store_arg us t a i y)
+    reshaped : (after : Assigned) →
+        ((b j : ℕ) → j < dim modes b → Known modes after b j
+        → read_arg ts (store_arg ts s a i x) b j ≡ read_arg us (store_arg us t a i y) b j)
+        → ((r : Reduction) (b j : ℕ) → j < dim modes b → Alone modes r ts b j → Amount r (store_arg ts s a i x) (store_arg us t a i y) b j)
+        → ((b j : ℕ) → j < dim modes b → OnlyReduced modes ts b j → read_arg ts s0 b j ≡ read_arg us t0 b j
+        → read_arg ts (store_arg ts s a i x) b j ≡ read_arg us (store_arg us t a i y) b j)
+        → Agrees after (store_arg ts s a i x) (store_arg us t a i y)
     reshaped after k m n = record {
       arrays_s = λ b j l. let e = length-with_cell s (target_at ts a).array ((target_at ts a).from + i) x in subst (λ n. (target_at ts b).array < n) (sym e) (ag.arrays_s b j l);
       arrays_t = λ b j l. let e = length-with_cell t (target_at us a).array ((target_at us a).from + i) y in subst (λ n. (target_at us b).array < n) (sym e) (ag.arrays_t b j l);
-      cells_s = λ b j l. let e = length-array_with_cell s (target_at ts a).array ((target_at ts a).from + i) (target_at ts b).array x (ag.arrays_s a i lt) in subst (λ n. (target_at ts b).from + j < n) (sym e) (ag.cells_s b j l);
-      cells_t = λ b j l. let e = length-array_with_cell t (target_at us a).array ((target_at us a).from + i) (target_at us b).array y (ag.arrays_t a i lt) in subst (λ n. (target_at us b).from + j < n) (sym e) (ag.cells_t b j l);
+      cells_s = λ b j l. let e = length-array_with_cell s (target_at ts a).array ((target_at ts a).from + i) (target_at ts b).array x
+          (ag.arrays_s a i lt) in subst (λ n. (target_at ts b).from + j < n) (sym e) (ag.cells_s b j l);
+      cells_t = λ b j l. let e = length-array_with_cell t (target_at us a).array ((target_at us a).from + i) (target_at us b).array y
+          (ag.arrays_t a i lt) in subst (λ n. (target_at us b).from + j < n) (sym e) (ag.cells_t b j l);
       known = k;
       amounts = m;
       mixed = n;
     }
 
   -- a component elsewhere was assigned before
-  still_assigned : (before : Assigned) (a i b j : ℕ) (ix : Option ℤ) → ((z : ℤ) → ix ≡ Some z → z ≡ pos i) → same_cell ts a i b j ≡ false → HasAssigned (with_assigned a ix before) b j → HasAssigned before b j
+  still_assigned : (before : Assigned) (a i b j : ℕ) (ix : Option ℤ) → ((z : ℤ) → ix ≡ Some z → z ≡ pos i) → same_cell ts a i b j ≡ false
+      → HasAssigned (with_assigned a ix before) b j → HasAssigned before b j
   still_assigned before a i b j None hz e h = h
   still_assigned before a i b j (Some (negsuc n)) hz e h = h
   still_assigned before a i b j (Some (pos n)) hz e (inr h) = h
@@ -100,7 +109,8 @@ module _ (modes : List Mode) (ts us : List Target) (aliases : SameStoredAliases 
       let same : same_cell ts a i b j ≡ true = subst (λ c. same_cell ts a i c j ≡ true) h.0 (subst (λ c. same_cell ts a i a c ≡ true) (sym ni ∙ h.1) (same_cell_refl ts a i)) in
       absurd (let k : ⊥ = cc in k)
 
-  not_assigned_inc : (before : Assigned) (a b j : ℕ) (ix : Option ℤ) → IsReducing modes (access modes a) → access modes b ≡ OpWrite → HasAssigned (with_assigned a ix before) b j → HasAssigned before b j
+  not_assigned_inc : (before : Assigned) (a b j : ℕ) (ix : Option ℤ) → IsReducing modes (access modes a) → access modes b ≡ OpWrite
+      → HasAssigned (with_assigned a ix before) b j → HasAssigned before b j
   not_assigned_inc before a b j None e f h = h
   not_assigned_inc before a b j (Some (negsuc n)) e f h = h
   not_assigned_inc before a b j (Some (pos n)) e f (inr h) = h
@@ -108,7 +118,8 @@ module _ (modes : List Mode) (ts us : List Target) (aliases : SameStoredAliases 
       let g : access modes a ≡ OpWrite = ap (access modes) h.0 ∙ f in
       let h : IsReducing modes OpWrite = subst (IsReducing modes) g e in absurd (let k = h.1 in let z : ⊥ = cc in z)
 
-  still_known : (before : Assigned) (a i b j : ℕ) (ix : Option ℤ) → ((z : ℤ) → ix ≡ Some z → z ≡ pos i) → same_cell ts a i b j ≡ false → Known modes (with_assigned a ix before) b j → Known modes before b j
+  still_known : (before : Assigned) (a i b j : ℕ) (ix : Option ℤ) → ((z : ℤ) → ix ≡ Some z → z ≡ pos i) → same_cell ts a i b j ≡ false
+      → Known modes (with_assigned a ix before) b j → Known modes before b j
   still_known before a i b j ix hz e (known_read f) = known_read f
   still_known before a i b j ix hz e (known_rw f) = known_rw f
   still_known before a i b j ix hz e (known_write f h) = known_write f (still_assigned before a i b j ix hz e h)
@@ -119,7 +130,9 @@ module _ (modes : List Mode) (ts us : List Target) (aliases : SameStoredAliases 
   known_beside_inc before a b j ix e (known_write f h) = known_write f (not_assigned_inc before a b j ix e f h)
 
   -- one value is stored in both runs, not through a reducing argument
-  pub same_stored : (before : Assigned) (a i : ℕ) (ix : Option ℤ) (s t : Store) (v : ℤ) → i < dim modes a → (IsReducing modes (access modes a) → ⊥) → access modes a ≢ OpRead → ((z : ℤ) → ix ≡ Some z → z ≡ pos i) → Agrees before s t → Agrees (with_assigned a ix before) (store_arg ts s a i v) (store_arg us t a i v)
+  pub same_stored : (before : Assigned) (a i : ℕ) (ix : Option ℤ) (s t : Store) (v : ℤ) → i < dim modes a
+      → (IsReducing modes (access modes a) → ⊥) → access modes a ≢ OpRead → ((z : ℤ) → ix ≡ Some z → z ≡ pos i) → Agrees before s t
+      → Agrees (with_assigned a ix before) (store_arg ts s a i v) (store_arg us t a i v)
   same_stored before a i ix s t v lt nred stores hz ag = reshaped before a i lt stores s t ag v v (with_assigned a ix before) eqs sums mixes
     where
       st : Stored a i s t (store_arg ts s a i v) (store_arg us t a i v) v v
@@ -147,7 +160,9 @@ module _ (modes : List Mode) (ts us : List Target) (aliases : SameStoredAliases 
           pick false e = st.there_s b j l e ∙ ag.mixed b j l only same ∙ sym (st.there_t b j l e)
 
   -- one amount is merged in both runs through a reducing argument
-  pub sum_stored : (r0 : Reduction) (before : Assigned) (a i : ℕ) (ix : Option ℤ) (s t : Store) (f : ℤ → ℤ) (g : ℤ → ℤ) → ((x d : ℤ) → f (merged r0 x d) ≡ merged r0 x (g d)) → i < dim modes a → access modes a ≡ OpReduce r0 → Agrees before s t → Agrees (with_assigned a ix before) (store_arg ts s a i (f (read_arg ts s a i))) (store_arg us t a i (f (read_arg us t a i)))
+  pub sum_stored : (r0 : Reduction) (before : Assigned) (a i : ℕ) (ix : Option ℤ) (s t : Store) (f : ℤ → ℤ) (g : ℤ → ℤ)
+      → ((x d : ℤ) → f (merged r0 x d) ≡ merged r0 x (g d)) → i < dim modes a → access modes a ≡ OpReduce r0 → Agrees before s t
+      → Agrees (with_assigned a ix before) (store_arg ts s a i (f (read_arg ts s a i))) (store_arg us t a i (f (read_arg us t a i)))
   sum_stored r0 before a i ix s t f g fg lt inc ag = reshaped before a i lt stores s t ag x y (with_assigned a ix before) eqs sums mixes
     where
       stores : access modes a ≢ OpRead
@@ -191,7 +206,9 @@ module _ (modes : List Mode) (ts us : List Target) (aliases : SameStoredAliases 
               let both : OpReduce r0 ≡ OpReduce r = sym inc ∙ alone a i lt e in
               let eq : r0 ≡ r = cc in
               let m0 = subst (λ k. Amount k s t b j) (sym eq) m in
-              let new : Amount r0 (store_arg ts s a i x) (store_arg us t a i y) b j = (g m0.0, st.here_s b j l e ∙ ap f (p ∙ m0.1) ∙ fg (read_arg ts s0 b j) m0.0, st.here_t b j l e ∙ ap f (q ∙ m0.2) ∙ fg (read_arg us t0 b j) m0.0) in
+              let new : Amount r0 (store_arg ts s a i x) (store_arg us t a i y) b j =
+                  (g m0.0, st.here_s b j l e ∙ ap f (p ∙ m0.1) ∙ fg (read_arg ts s0 b j) m0.0, st.here_t b j l e ∙ ap f (q ∙ m0.2)
+                  ∙ fg (read_arg us t0 b j) m0.0) in
               subst (λ k. Amount k (store_arg ts s a i x) (store_arg us t a i y) b j) eq new
           pick false e = (m.0, st.there_s b j l e ∙ m.1, st.there_t b j l e ∙ m.2)
 

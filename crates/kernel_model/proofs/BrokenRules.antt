@@ -67,7 +67,8 @@ written_or dim a None before = inr (inl (inl refl))
 written_or dim a (Some (negsuc i)) before = inr (inl (inr tt))
 written_or dim a (Some (pos i)) before = pick (cases_lt i dim) (has_assigned before a i)
   where
-    pick : (i < dim) ⊎ (dim ≤ i) → HasAssigned before a i ⊎ (HasAssigned before a i → ⊥) → ((i < dim) × HasAssigned before a i) ⊎ (BadIndex dim (Some (pos i)) ⊎ ((i < dim) × (HasAssigned before a i → ⊥)))
+    pick : (i < dim) ⊎ (dim ≤ i) → HasAssigned before a i ⊎ (HasAssigned before a i → ⊥) → ((i < dim) × HasAssigned before a i)
+        ⊎ (BadIndex dim (Some (pos i)) ⊎ ((i < dim) × (HasAssigned before a i → ⊥)))
     pick (inr h) d = inr (inl (inr h))
     pick (inl h) (inl k) = inl (h, k)
     pick (inl h) (inr n) = inr (inr (h, n))
@@ -227,7 +228,8 @@ in_dim acc dim before e f = ⊎_elim (λ h. inl (f h)) (λ o. inr (LiteralIndexO
 bad_index : (dim : ℕ) (before : Assigned) (e : Event) → BadIndex dim (index_of e) → (rule : Rule) × Breaks OpWrite dim before e rule
 bad_index dim before e b = ⊎_elim (λ n. (WriteIndexNotStatic, (refl, n))) (λ o. (LiteralIndexOut, o)) b
 
-written : (dim : ℕ) (before : Assigned) (e : Event) → is_read OpWrite e ≡ true → (IsComponent dim (index_of e) (λ i. HasAssigned before (argument_of e) i) → Fits OpWrite dim before e) → FitsOr OpWrite dim before e
+written : (dim : ℕ) (before : Assigned) (e : Event) → is_read OpWrite e ≡ true
+    → (IsComponent dim (index_of e) (λ i. HasAssigned before (argument_of e) i) → Fits OpWrite dim before e) → FitsOr OpWrite dim before e
 written dim before e r f =
     ⊎_elim (λ h. inl (f h)) (λ k. inr (⊎_elim (bad_index dim before e) (λ u. (ReadsUnwritten, (refl, r, u))) k)) (written_or dim (argument_of e) (index_of e) before)
 

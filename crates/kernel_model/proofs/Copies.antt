@@ -17,10 +17,12 @@ use Rattle.kernel_model.proofs.Static.{index_ok}
 fits_kept : (rs : List Target) (s : Store) (a i : ℕ) (v : ℤ) → i < (target_at rs a).count → Fits rs s → Fits rs (store_arg rs s a i v)
 fits_kept rs s a i v lt h = record {
   arrays = λ b j l. let e = length-with_cell s (target_at rs a).array ((target_at rs a).from + i) v in subst (λ n. (target_at rs b).array < n) (sym e) (h.arrays b j l);
-  cells = λ b j l. let e = length-array_with_cell s (target_at rs a).array ((target_at rs a).from + i) (target_at rs b).array v (h.arrays a i lt) in subst (λ n. (target_at rs b).from + j < n) (sym e) (h.cells b j l);
+  cells = λ b j l. let e = length-array_with_cell s (target_at rs a).array ((target_at rs a).from + i) (target_at rs b).array v
+      (h.arrays a i lt) in subst (λ n. (target_at rs b).from + j < n) (sym e) (h.cells b j l);
 }
 
-module _ (consts : List ℤ) (ts us : List Target) (counts : (a : ℕ) → (target_at ts a).count ≡ (target_at us a).count) (aliases : (a i b j : ℕ) → i < (target_at ts a).count → j < (target_at ts b).count → same_cell ts a i b j ≡ same_cell us a i b j) where
+module _ (consts : List ℤ) (ts us : List Target) (counts : (a : ℕ) → (target_at ts a).count ≡ (target_at us a).count)
+    (aliases : (a i b j : ℕ) → i < (target_at ts a).count → j < (target_at ts b).count → same_cell ts a i b j ≡ same_cell us a i b j) where
   record Copied (s t : Store) : Type 0 where
     fits_s : Fits ts s
     fits_t : Fits us t
@@ -45,13 +47,17 @@ module _ (consts : List ℤ) (ts us : List Target) (counts : (a : ℕ) → (targ
 
   -- ---- expressions
 
-  element_copied : (r : Value) (a : ℕ) (at : Pos) (s t : Store) → Copied s t → and_then r (λ z. and_then (index_in (target_at ts a).count at z) (λ i. Ok (read_arg ts s a i))) ≡ and_then r (λ z. and_then (index_in (target_at us a).count at z) (λ i. Ok (read_arg us t a i)))
+  element_copied : (r : Value) (a : ℕ) (at : Pos) (s t : Store) → Copied s t
+      → and_then r (λ z. and_then (index_in (target_at ts a).count at z) (λ i. Ok (read_arg ts s a i))) ≡ and_then r
+      (λ z. and_then (index_in (target_at us a).count at z) (λ i. Ok (read_arg us t a i)))
   element_copied (Err f) a at s t h = refl
   element_copied (Ok (negsuc n)) a at s t h = refl
   element_copied (Ok (pos n)) a at s t h =
       pick (nat_lt n (target_at ts a).count) refl ∙ ap (λ c. and_then (index_in c at (pos n)) (λ i. Ok (read_arg us t a i))) (counts a)
     where
-      pick : (b : Bool) → nat_lt n (target_at ts a).count ≡ b → and_then (cond b (Ok n) (Err (fault Index at))) (λ i. Ok (read_arg ts s a i)) ≡ and_then (cond b (Ok n) (Err (fault Index at))) (λ i. Ok (read_arg us t a i))
+      pick : (b : Bool) → nat_lt n (target_at ts a).count ≡ b
+          → and_then (cond b (Ok n) (Err (fault Index at))) (λ i. Ok (read_arg ts s a i)) ≡ and_then (cond b (Ok n) (Err (fault Index at)))
+          (λ i. Ok (read_arg us t a i))
       pick true e = ap Ok (h.cells a n (ltb-true n (target_at ts a).count e))
       pick false e = refl
 
@@ -88,7 +94,8 @@ module _ (consts : List ℤ) (ts us : List Target) (counts : (a : ℕ) → (targ
   Twins (Done s ls) (Faulted t ms g) = ⊥
   Twins (Faulted s ls f) (Done t ms) = ⊥
 
-  twins_value : {A : Type 0} → (s t : Store) (ls : List ℤ) (r r' : Result A KernelFault) (go go' : A → Outcome) → Copied s t → r ≡ r' → ((v : A) → r ≡ Ok v → Twins (go v) (go' v)) → Twins (with_value s ls r go) (with_value t ls r' go')
+  twins_value : {A : Type 0} → (s t : Store) (ls : List ℤ) (r r' : Result A KernelFault) (go go' : A → Outcome) → Copied s t → r ≡ r'
+      → ((v : A) → r ≡ Ok v → Twins (go v) (go' v)) → Twins (with_value s ls r go) (with_value t ls r' go')
   twins_value {A} s t ls r r' go go' h e f = subst (λ x. Twins (with_value s ls r go) (with_value t ls x go')) e (core r f)
     where
       core : (x : Result A KernelFault) → ((v : A) → x ≡ Ok v → Twins (go v) (go' v)) → Twins (with_value s ls x go) (with_value t ls x go')
@@ -105,7 +112,10 @@ module _ (consts : List ℤ) (ts us : List Target) (counts : (a : ℕ) → (targ
   twins_cond true o o' p p' x y = x
   twins_cond false o o' p p' x y = y
 
-  turns_copied : (body : RStmt) (k : ℕ) → ((s t : Store) (ls : List ℤ) → Copied s t → Twins (meaning ts consts body s ls) (meaning us consts body t ls)) → (i n : ℕ) (s t : Store) (ls : List ℤ) → Copied s t → Twins (turns (meaning ts consts body) k i n s ls) (turns (meaning us consts body) k i n t ls)
+  turns_copied : (body : RStmt) (k : ℕ) →
+      ((s t : Store) (ls : List ℤ) → Copied s t → Twins (meaning ts consts body s ls) (meaning us consts body t ls))
+      → (i n : ℕ) (s t : Store) (ls : List ℤ) → Copied s t
+      → Twins (turns (meaning ts consts body) k i n s ls) (turns (meaning us consts body) k i n t ls)
   turns_copied body k hb i zero s t ls h = (refl, h)
   turns_copied body k hb i (suc n) s t ls h =
       twins_then (meaning ts consts body s (set ls k (pos i))) (meaning us consts body t (set ls k (pos i))) (turns (meaning ts consts body) k (suc i) n) (turns (meaning us consts body) k (suc i) n)
@@ -117,19 +127,23 @@ module _ (consts : List ℤ) (ts us : List Target) (counts : (a : ℕ) → (targ
     stmt_copied (Declare from count) s t ls h = (refl, h)
     stmt_copied (SetScalar k op opat e) s t ls h =
         twins_value s t ls (value_of ts consts e s ls) (value_of us consts e t ls) _ _ h (expr_copied e s t ls h)
-        (λ v f. twins_value s t ls (stored op opat (slice_index_or ls k (pos 0)) v) (stored op opat (slice_index_or ls k (pos 0)) v) (λ r. Done s (set ls k r)) (λ r. Done t (set ls k r)) h refl (λ r g. (refl, h)))
+        (λ v f. twins_value s t ls (stored op opat (slice_index_or ls k (pos 0)) v) (stored op opat (slice_index_or ls k (pos 0)) v)
+            (λ r. Done s (set ls k r)) (λ r. Done t (set ls k r)) h refl (λ r g. (refl, h)))
     stmt_copied (SetLocal from count form ix at op opat e) s t ls h =
         twins_value s t ls (value_of ts consts ix s ls) (value_of us consts ix t ls) _ _ h (expr_copied ix s t ls h)
         (λ z f. twins_value s t ls (index_in count at z) (index_in count at z) _ _ h refl
         (λ i g. twins_value s t ls (value_of ts consts e s ls) (value_of us consts e t ls) _ _ h (expr_copied e s t ls h)
-        (λ v l. twins_value s t ls (stored op opat (slice_index_or ls (from + i) (pos 0)) v) (stored op opat (slice_index_or ls (from + i) (pos 0)) v) (λ r. Done s (set ls (from + i) r)) (λ r. Done t (set ls (from + i) r)) h refl (λ r o. (refl, h)))))
+        (λ v l. twins_value s t ls (stored op opat (slice_index_or ls (from + i) (pos 0)) v)
+            (stored op opat (slice_index_or ls (from + i) (pos 0)) v) (λ r. Done s (set ls (from + i) r))
+            (λ r. Done t (set ls (from + i) r)) h refl (λ r o. (refl, h)))))
     stmt_copied (SetArg a form ix at op opat e) s t ls h =
         twins_value s t ls (value_of ts consts ix s ls) (value_of us consts ix t ls) _ _ h (expr_copied ix s t ls h)
         (λ z f. twins_value s t ls (index_in (target_at ts a).count at z) (index_in (target_at us a).count at z) _ _ h (ap (λ c. index_in c at z) (counts a))
         (λ i g.
         let lt = (index_ok (target_at ts a).count at z i g).0 in
         twins_value s t ls (value_of ts consts e s ls) (value_of us consts e t ls) _ _ h (expr_copied e s t ls h)
-        (λ v l. twins_value s t ls (stored op opat (read_arg ts s a i) v) (stored op opat (read_arg us t a i) v) (λ r. Done (store_arg ts s a i r) ls) (λ r. Done (store_arg us t a i r) ls) h (ap (λ o. stored op opat o v) (h.cells a i lt))
+        (λ v l. twins_value s t ls (stored op opat (read_arg ts s a i) v) (stored op opat (read_arg us t a i) v)
+            (λ r. Done (store_arg ts s a i r) ls) (λ r. Done (store_arg us t a i r) ls) h (ap (λ o. stored op opat o v) (h.cells a i lt))
         (λ r o. (refl, copied_kept s t a i r lt h)))))
     stmt_copied (If' e p a q b) s t ls h =
         twins_value s t ls (value_of ts consts e s ls) (value_of us consts e t ls) _ _ h (expr_copied e s t ls h)
@@ -151,7 +165,8 @@ transport k consts ts us s t fs fu copy =
     still : (s' t' : Store) → Copied consts ts us copy.counts copy.aliases s' t' → IsCopy ts us s' t'
     still s' t' h = record { counts = copy.counts; aliases = copy.aliases; cells = h.cells }
 
-    finish : (o p : Outcome) → Twins consts ts us copy.counts copy.aliases o p → SameEnd (without_locals o) (without_locals p) × IsCopy ts us (store_after (without_locals o)) (store_after (without_locals p))
+    finish : (o p : Outcome) → Twins consts ts us copy.counts copy.aliases o p → SameEnd (without_locals o) (without_locals p)
+        × IsCopy ts us (store_after (without_locals o)) (store_after (without_locals p))
     finish (Done s' ls) (Done t' ms) h = (tt, still s' t' h.1)
     finish (Faulted s' ls f) (Faulted t' ms g) h = (h.0, still s' t' h.1)
     finish (Done s' ls) (Faulted t' ms g) h = absurd h

@@ -31,7 +31,9 @@ all_or_along false H K back forth h = ((forth h.0).0, λ k. h.1 ((forth h.0).1 k
 -- families with the same lists cover the same
 pub covers_along : {I J : Type 0} → (c : Covered) (f : I → Assigned) (g : J → Assigned) → ((j : J) → (i : I) × (g j ≡ f i)) → ((i : I) → (j : J) × (g j ≡ f i)) → Covers c f → Covers c g
 covers_along c f g back forth cov a i =
-    all_or_along (c a i) (λ p. HasAssigned (f p) a i) (λ p. HasAssigned (g p) a i) (λ j. ((back j).0, λ h. subst (λ l. HasAssigned l a i) (sym (back j).1) h)) (λ k. ((forth k).0, λ h. subst (λ l. HasAssigned l a i) (forth k).1 h)) (cov a i)
+    all_or_along (c a i) (λ p. HasAssigned (f p) a i) (λ p. HasAssigned (g p) a i)
+        (λ j. ((back j).0, λ h. subst (λ l. HasAssigned l a i) (sym (back j).1) h))
+        (λ k. ((forth k).0, λ h. subst (λ l. HasAssigned l a i) (forth k).1 h)) (cov a i)
 
 pub covers_none : Covers none_covered (λ (p : Unit {0}). [])
 covers_none a i = (tt, λ h. h)
@@ -56,7 +58,9 @@ covers_with {I} p0 c f cov a (Some (pos n)) b j = pick (nat_eq a b) (nat_eq n j)
     pick false y e g = other (λ q. let k = eq-eqb a b q.0 in let z : ⊥ = cc in z)
 
 -- the families of both branches of an if, as one
-pub covers_both : {I J K : Type 0} → (c d : Covered) (f : I → Assigned) (g : J → Assigned) (h : K → Assigned) → ((i : I) → (k : K) × (h k ≡ f i)) → ((j : J) → (k : K) × (h k ≡ g j)) → ((k : K) → ((i : I) × (h k ≡ f i)) ⊎ ((j : J) × (h k ≡ g j))) → Covers c f → Covers d g → Covers (both_covered c d) h
+pub covers_both : {I J K : Type 0} → (c d : Covered) (f : I → Assigned) (g : J → Assigned) (h : K → Assigned)
+    → ((i : I) → (k : K) × (h k ≡ f i)) → ((j : J) → (k : K) × (h k ≡ g j)) → ((k : K) → ((i : I) × (h k ≡ f i)) ⊎ ((j : J) × (h k ≡ g j)))
+    → Covers c f → Covers d g → Covers (both_covered c d) h
 covers_both {I} {J} {K} c d f g h left right either x y a i = pick (c a i) (d a i) (x a i) (y a i)
   where
     pick : (r s : Bool) → All_or r (λ p. HasAssigned (f p) a i) → All_or s (λ p. HasAssigned (g p) a i) → All_or (r && s) (λ p. HasAssigned (h p) a i)
@@ -179,4 +183,6 @@ module _ {I : Type 0} (p0 : I) (c : Covered) (f : I → Assigned) (cov : Covers 
   pub rules_first : (found : Option Breach) (P : Rule → Pos → Type 0) → IsFirst found P → IsFirst (with_rules c acc dim e found) (λ rule at. P rule at ⊎ EventBreach rule at)
   rules_first found P h =
       first_iff (with_rules c acc dim e found) (All_rules P) (λ rule at. P rule at ⊎ EventBreach rule at) (gather P) (scatter P)
-      (one_rule MinMaxForm _ _ (one_rule LiteralIndexOut _ _ (one_rule WriteIndexNotStatic _ _ (one_rule ReadsUnwritten _ _ (one_rule IncNotSum _ _ (one_rule ReadsInc _ _ (one_rule WritesRead found P h)))))))
+      (one_rule MinMaxForm _ _ (one_rule LiteralIndexOut _ _
+          (one_rule WriteIndexNotStatic _ _
+          (one_rule ReadsUnwritten _ _ (one_rule IncNotSum _ _ (one_rule ReadsInc _ _ (one_rule WritesRead found P h)))))))

@@ -40,22 +40,36 @@ unfolding difference
 nothing_left = int_wrap_fits w32 (pos 0) (record { sfits = omega arith })
 
 -- a[0] += 5; b[0] += 5; where both arguments have one target
-adds_twice : meaning_of_all (one_of 0 ∷ one_of 0 ∷ []) [] (more_of-RStmt (SetArg 0 form.Index n0 here assign.Add here (Number (pos 5))) (more_of-RStmt (SetArg 1 form.Index n0 here assign.Add here (Number (pos 5))) end_of-RStmt)) ((pos 0 ∷ []) ∷ []) [] ≡ Done ((pos 10 ∷ []) ∷ []) []
+adds_twice : meaning_of_all (one_of 0 ∷ one_of 0 ∷ []) []
+    (more_of-RStmt (SetArg 0 form.Index n0 here assign.Add here (Number (pos 5)))
+    (more_of-RStmt (SetArg 1 form.Index n0 here assign.Add here (Number (pos 5))) end_of-RStmt)) ((pos 0 ∷ []) ∷ []) [] ≡ Done
+    ((pos 10 ∷ []) ∷ []) []
 adds_twice =
     let first : sum (pos 0) (pos 5) ≡ pos 5 = sum_of (pos 0) (pos 5) (record { sfits = omega arith }) in
     let second : sum (pos 5) (pos 5) ≡ pos 10 = sum_of (pos 5) (pos 5) (record { sfits = omega arith }) in
     ap (λ v. Done ((v ∷ []) ∷ []) []) (ap (λ v. sum v (pos 5)) first ∙ second)
 
 -- a[0] = 9; a[0] = 1 / (a[0] - 9);
-keeps_what_was_stored : (p q r s : _) → meaning_of_all (one_of 0 ∷ []) [] (more_of-RStmt (SetArg 0 form.Index n0 here assign.Set here (Number (pos 9))) (more_of-RStmt (SetArg 0 form.Index n0 here assign.Set here (Binary' binary.Div p (Number (pos 1)) q (Binary' binary.Sub r (Arg' 0 form.Index s n0 here) q (Number (pos 9)) here) there)) end_of-RStmt)) ((pos 4 ∷ []) ∷ []) [] ≡ Faulted ((pos 9 ∷ []) ∷ []) [] (fault DivZero there)
+keeps_what_was_stored : (p q r s : _) → meaning_of_all (one_of 0 ∷ []) []
+    (more_of-RStmt (SetArg 0 form.Index n0 here assign.Set here (Number (pos 9)))
+    (more_of-RStmt (SetArg 0 form.Index n0 here assign.Set here
+    (Binary' binary.Div p (Number (pos 1)) q (Binary' binary.Sub r (Arg' 0 form.Index s n0 here) q (Number (pos 9)) here) there))
+    end_of-RStmt)) ((pos 4 ∷ []) ∷ []) [] ≡ Faulted ((pos 9 ∷ []) ∷ []) [] (fault DivZero there)
 keeps_what_was_stored p q r s = rw nothing_left refl
 
 -- q[0] = b[0] != 0 ? a[0] / b[0] : 7; with arguments q, a and b
-no_fault_on_the_side_left_out : (p q r s t u v w : _) → meaning (one_of 0 ∷ one_of 1 ∷ one_of 2 ∷ []) [] (SetArg 0 form.Index n0 here assign.Set here (Choice' p (Binary' binary.NotEqual q (Arg' 2 form.Index r n0 here) s n0 here) t (Binary' binary.Div u (Arg' 1 form.Index r n0 here) v (Arg' 2 form.Index r n0 here) here) w (Number (pos 7)))) ((pos 0 ∷ []) ∷ (pos 1 ∷ []) ∷ (pos 0 ∷ []) ∷ []) [] ≡ Done ((pos 7 ∷ []) ∷ (pos 1 ∷ []) ∷ (pos 0 ∷ []) ∷ []) []
+no_fault_on_the_side_left_out : (p q r s t u v w : _)
+    → meaning (one_of 0 ∷ one_of 1 ∷ one_of 2 ∷ []) []
+    (SetArg 0 form.Index n0 here assign.Set here
+    (Choice' p (Binary' binary.NotEqual q (Arg' 2 form.Index r n0 here) s n0 here) t
+    (Binary' binary.Div u (Arg' 1 form.Index r n0 here) v (Arg' 2 form.Index r n0 here) here) w (Number (pos 7))))
+    ((pos 0 ∷ []) ∷ (pos 1 ∷ []) ∷ (pos 0 ∷ []) ∷ []) [] ≡ Done ((pos 7 ∷ []) ∷ (pos 1 ∷ []) ∷ (pos 0 ∷ []) ∷ []) []
 no_fault_on_the_side_left_out p q r s t u v w = refl
 
 -- for (int i = 1; i < 3; i++) a[i] = 5; on two cells
-stops_past_the_end : (p : _) → meaning (record { array = 0; from = 0; count = 2 } ∷ []) [] (For' 0 1 3 p (SetArg 0 form.Index (Scalar 0) here assign.Set here (Number (pos 5)))) ((pos 7 ∷ pos 8 ∷ []) ∷ []) (pos 0 ∷ []) ≡ Faulted ((pos 7 ∷ pos 5 ∷ []) ∷ []) (pos 2 ∷ []) (fault Index here)
+stops_past_the_end : (p : _) → meaning (record { array = 0; from = 0; count = 2 } ∷ []) []
+    (For' 0 1 3 p (SetArg 0 form.Index (Scalar 0) here assign.Set here (Number (pos 5)))) ((pos 7 ∷ pos 8 ∷ []) ∷ []) (pos 0 ∷ []) ≡ Faulted
+    ((pos 7 ∷ pos 5 ∷ []) ∷ []) (pos 2 ∷ []) (fault Index here)
 stops_past_the_end p = refl
 
 -- ---- which rules they obey
@@ -86,8 +100,12 @@ lowers : (p q r : _) → Obeys (SetArg 0 form.Index n0 here assign.Set here (Ext
 lowers p q r w = ((omega arith, (omega arith, tt)), λ a i e lt. absurd (none_written (least_mode ∷ []) ((λ f. cc), tt) a e))
 
 -- b[0] = MIN(w[0], b[0]); under OP_MIN, w under OP_READ
-lowers_from_the_second_side : (p q r : _) → Obeys (SetArg 0 form.Index n0 here assign.Set here (Extremum' min_max.Min p (Arg' 1 form.Index q n0 here) r (Arg' 0 form.Index q n0 here))) (least_mode ∷ record { access = OpRead; dim = 1 } ∷ [])
-lowers_from_the_second_side p q r w = ((omega arith, (omega arith, (omega arith, tt))), λ a i e lt. absurd (none_written (least_mode ∷ record { access = OpRead; dim = 1 } ∷ []) ((λ f. cc), ((λ f. cc), tt)) a e))
+lowers_from_the_second_side : (p q r : _) → Obeys
+    (SetArg 0 form.Index n0 here assign.Set here (Extremum' min_max.Min p (Arg' 1 form.Index q n0 here) r (Arg' 0 form.Index q n0 here)))
+    (least_mode ∷ record { access = OpRead; dim = 1 } ∷ [])
+lowers_from_the_second_side p q r w =
+    ((omega arith, (omega arith, (omega arith, tt))), λ a i e lt. absurd
+    (none_written (least_mode ∷ record { access = OpRead; dim = 1 } ∷ []) ((λ f. cc), ((λ f. cc), tt)) a e))
 
 -- a[0] = MAX(a[0], 3); under OP_MIN
 raises : (p q r : _) → Obeys (SetArg 0 form.Index n0 here assign.Set here (Extremum' min_max.Max p (Arg' 0 form.Index q n0 here) r (Number (pos 3)))) (least_mode ∷ []) → ⊥
@@ -108,7 +126,9 @@ breaks_where_it_is_read : (p : _) → EventBreaks (SetArg 0 form.Index n0 here a
 breaks_where_it_is_read p = ((tt, tt), [], Reads 0 (Some (pos 0)) there, Adds 0 (Some (pos 0)) here ∷ [], refl, refl, ((Add, refl), refl))
 
 -- if (1) a[0] = 2; under OP_WRITE: the path through the other branch assigns nothing
-breaks_at_the_parameter : (p q : _) → EndBreaks (If' (Number (pos 1)) p (SetArg 0 form.Index n0 here assign.Set here (Number (pos 2))) q (Declare 0 0)) (λ a. there) (record { access = OpWrite; dim = 1 } ∷ []) NotAllWritten there
+breaks_at_the_parameter : (p q : _) → EndBreaks
+    (If' (Number (pos 1)) p (SetArg 0 form.Index n0 here assign.Set here (Number (pos 2))) q (Declare 0 0)) (λ a. there)
+    (record { access = OpWrite; dim = 1 } ∷ []) NotAllWritten there
 breaks_at_the_parameter p q = ((tt, inr tt), 0, 0, refl, refl, refl, omega arith, λ h. h)
 
 -- a[0] = MAX(a[0], 3); under OP_MIN: another form at the target, and a read inside it

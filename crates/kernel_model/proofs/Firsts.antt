@@ -65,7 +65,8 @@ earlier_than p q r (inr a) (inr b) = inr (a.0 ∙ b.0, omega (arith, a.1, b.1))
 one_of : (p q : Pos) → IsEarlier p q ⊎ ((p ≡ q) ⊎ IsEarlier q p)
 one_of p q = pick (cases_lt p.line q.line) (cases_lt q.line p.line) (cases_lt p.column q.column) (cases_lt q.column p.column)
   where
-    pick : (p.line < q.line) ⊎ (q.line ≤ p.line) → (q.line < p.line) ⊎ (p.line ≤ q.line) → (p.column < q.column) ⊎ (q.column ≤ p.column) → (q.column < p.column) ⊎ (p.column ≤ q.column) → IsEarlier p q ⊎ ((p ≡ q) ⊎ IsEarlier q p)
+    pick : (p.line < q.line) ⊎ (q.line ≤ p.line) → (q.line < p.line) ⊎ (p.line ≤ q.line) → (p.column < q.column) ⊎ (q.column ≤ p.column)
+        → (q.column < p.column) ⊎ (p.column ≤ q.column) → IsEarlier p q ⊎ ((p ≡ q) ⊎ IsEarlier q p)
     pick (inl a) y z w = inl (inl a)
     pick (inr a) (inl b) z w = inr (inr (inl b))
     pick (inr a) (inr b) (inl c) w = inl (inr (omega arith, c))
@@ -83,7 +84,8 @@ abbrev pub IsFirst : Option Breach → (Rule → Pos → Type 0) → Type 0
 IsFirst None P = (rule : Rule) (at : Pos) → P rule at → ⊥
 IsFirst (Some b) P = P b.rule b.at × ((rule : Rule) (at : Pos) → P rule at → Counts b rule at)
 
-pub first_iff : (found : Option Breach) (P Q : Rule → Pos → Type 0) → ((rule : Rule) (at : Pos) → P rule at → Q rule at) → ((rule : Rule) (at : Pos) → Q rule at → P rule at) → IsFirst found P → IsFirst found Q
+pub first_iff : (found : Option Breach) (P Q : Rule → Pos → Type 0) → ((rule : Rule) (at : Pos) → P rule at → Q rule at)
+    → ((rule : Rule) (at : Pos) → Q rule at → P rule at) → IsFirst found P → IsFirst found Q
 first_iff None P Q f g h = λ rule at q. h rule at (g rule at q)
 first_iff (Some b) P Q f g h = (f b.rule b.at h.0, λ rule at q. h.1 rule at (g rule at q))
 
@@ -121,15 +123,20 @@ noted_first rule at (Some b) P h = pick (precedes rule at b) (d_precedes rule at
     )
     pick false d = (
       inl h.0,
-      λ other there q. ⊎_elim (λ p. h.1 other there p) (λ e. subst (λ r. Counts b r there) e.0 (subst (λ p. Counts b rule p) e.1 (counts_else rule at b (λ k. let z = d.1 k in let f : ⊥ = cc in f)))) q,
+      λ other there q. ⊎_elim (λ p. h.1 other there p)
+          (λ e. subst (λ r. Counts b r there) e.0
+          (subst (λ p. Counts b rule p) e.1 (counts_else rule at b (λ k. let z = d.1 k in let f : ⊥ = cc in f)))) q,
     )
 
 -- one more breach where something holds
 abbrev pub OrIf : (Rule → Pos → Type 0) → Type 0 → Rule → Pos → Rule → Pos → Type 0
 OrIf P Q rule at other there = P other there ⊎ ((rule ≡ other) × ((at ≡ there) × Q))
 
-pub noted_if_first : (broken : Bool) (Q : Type 0) (rule : Rule) (at : Pos) (found : Option Breach) (P : Rule → Pos → Type 0) → Decides broken Q → IsFirst found P → IsFirst (noted_if broken rule at found) (OrIf P Q rule at)
+pub noted_if_first : (broken : Bool) (Q : Type 0) (rule : Rule) (at : Pos) (found : Option Breach) (P : Rule → Pos → Type 0)
+    → Decides broken Q → IsFirst found P → IsFirst (noted_if broken rule at found) (OrIf P Q rule at)
 noted_if_first true Q rule at found P d h =
-    first_iff (noted found rule at) (Or P rule at) (OrIf P Q rule at) (λ other there q. ⊎_elim (λ p. inl p) (λ e. inr (e.0, (e.1, d.0 refl))) q) (λ other there q. ⊎_elim (λ p. inl p) (λ e. inr (e.0, e.1.0)) q) (noted_first rule at found P h)
+    first_iff (noted found rule at) (Or P rule at) (OrIf P Q rule at)
+        (λ other there q. ⊎_elim (λ p. inl p) (λ e. inr (e.0, (e.1, d.0 refl))) q)
+        (λ other there q. ⊎_elim (λ p. inl p) (λ e. inr (e.0, e.1.0)) q) (noted_first rule at found P h)
 noted_if_first false Q rule at found P d h =
     first_iff found P (OrIf P Q rule at) (λ other there p. inl p) (λ other there q. ⊎_elim (λ p. p) (λ e. absurd (let z = d.1 e.1.1 in let f : ⊥ = cc in f)) q) h

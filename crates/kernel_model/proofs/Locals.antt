@@ -18,7 +18,8 @@ on_done_value : {A : Type 0} → (P : List ℤ → Type 0) (s : Store) (ls : Lis
 on_done_value P s ls (Err f) go h = tt
 on_done_value P s ls (Ok v) go h = h v
 
-on_done_index : (P : List ℤ → Type 0) (s : Store) (ls : List ℤ) (count : ℕ) (at : Pos) (z : ℤ) (go : ℕ → Outcome) → ((i : ℕ) → i < count → OnDone P (go i)) → OnDone P (with_value s ls (index_in count at z) go)
+on_done_index : (P : List ℤ → Type 0) (s : Store) (ls : List ℤ) (count : ℕ) (at : Pos) (z : ℤ) (go : ℕ → Outcome)
+    → ((i : ℕ) → i < count → OnDone P (go i)) → OnDone P (with_value s ls (index_in count at z) go)
 on_done_index P s ls count at (negsuc i) go h = tt
 on_done_index P s ls count at (pos i) go h = pick (nat_lt i count) refl
   where
@@ -42,7 +43,8 @@ module _ (ts : List Target) (consts : List ℤ) where
     kept_clear from (suc n) ls h p =
         kept_clear (suc from) n (set ls from (pos 0)) (λ j a b. h j (omega arith) (omega arith)) (keep from (pos 0) ls (h from (omega arith) (omega arith)) p)
 
-    kept_turns : (body : Store → List ℤ → Outcome) (k : ℕ) → may k → ((s : Store) (ls : List ℤ) → P ls → OnDone P (body s ls)) → (i n : ℕ) (s : Store) (ls : List ℤ) → P ls → OnDone P (turns body k i n s ls)
+    kept_turns : (body : Store → List ℤ → Outcome) (k : ℕ) → may k → ((s : Store) (ls : List ℤ) → P ls → OnDone P (body s ls))
+        → (i n : ℕ) (s : Store) (ls : List ℤ) → P ls → OnDone P (turns body k i n s ls)
     kept_turns body k m hb i zero s ls p = p
     kept_turns body k m hb i (suc n) s ls p =
         on_done_then P P (body s (set ls k (pos i))) (turns body k (suc i) n) (hb s (set ls k (pos i)) (keep k (pos i) ls m p)) (λ s' ls' q. kept_turns body k m hb (suc i) n s' ls' q)
@@ -54,9 +56,16 @@ module _ (ts : List Target) (consts : List ℤ) where
       kept (SetScalar k op opat e) h s ls p =
           on_done_value P s ls (value_of ts consts e s ls) _ (λ v. on_done_value P s ls (stored op opat (slice_index_or ls k (pos 0)) v) _ (λ r. keep k r ls h p))
       kept (SetLocal from count form ix at op opat e) h s ls p =
-          on_done_value P s ls (value_of ts consts ix s ls) _ (λ z. on_done_index P s ls count at z _ (λ i lt. on_done_value P s ls (value_of ts consts e s ls) _ (λ v. on_done_value P s ls (stored op opat (slice_index_or ls (from + i) (pos 0)) v) _ (λ r. keep (from + i) r ls (h (from + i) (omega arith) (omega arith)) p))))
+          on_done_value P s ls (value_of ts consts ix s ls) _
+              (λ z. on_done_index P s ls count at z _
+              (λ i lt. on_done_value P s ls (value_of ts consts e s ls) _
+              (λ v. on_done_value P s ls (stored op opat (slice_index_or ls (from + i) (pos 0)) v) _
+              (λ r. keep (from + i) r ls (h (from + i) (omega arith) (omega arith)) p))))
       kept (SetArg a form ix at op opat e) h s ls p =
-          on_done_value P s ls (value_of ts consts ix s ls) _ (λ z. on_done_index P s ls (target_at ts a).count at z _ (λ i lt. on_done_value P s ls (value_of ts consts e s ls) _ (λ v. on_done_value P s ls (stored op opat (read_arg ts s a i) v) _ (λ r. p))))
+          on_done_value P s ls (value_of ts consts ix s ls) _
+              (λ z. on_done_index P s ls (target_at ts a).count at z _
+              (λ i lt. on_done_value P s ls (value_of ts consts e s ls) _
+              (λ v. on_done_value P s ls (stored op opat (read_arg ts s a i) v) _ (λ r. p))))
       kept (If' e q a r b) h s ls p =
           on_done_value P s ls (value_of ts consts e s ls) _ (λ x. on_done_cond P (is_zero x) _ _ (kept b h.1 s ls p) (kept a h.0 s ls p))
       kept (For' k first past q body) h s ls p =

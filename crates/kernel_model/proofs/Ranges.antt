@@ -283,7 +283,8 @@ module _ (ts : List Target) (consts : List ℤ) (s0 : Store) (fits : Fits ts s0)
   cond_ends true o p e f = e
   cond_ends false o p e f = f
 
-  turns_ends : (body : Store → List ℤ → Outcome) (k : ℕ) → ((s : Store) (ls : List ℤ) → Good s → Nums ls → Ends (body s ls)) → (i n : ℕ) (s : Store) (ls : List ℤ) → ((j : ℕ) → i ≤ j → j < i + n → j < 2 ^ 31) → Good s → Nums ls → Ends (turns body k i n s ls)
+  turns_ends : (body : Store → List ℤ → Outcome) (k : ℕ) → ((s : Store) (ls : List ℤ) → Good s → Nums ls → Ends (body s ls))
+      → (i n : ℕ) (s : Store) (ls : List ℤ) → ((j : ℕ) → i ≤ j → j < i + n → j < 2 ^ 31) → Good s → Nums ls → Ends (turns body k i n s ls)
   turns_ends body k hb i zero s ls b g h = (g, h)
   turns_ends body k hb i (suc n) s ls b g h =
       let small : i < 2 ^ 31 = b i (omega arith) (omega arith) in
@@ -306,7 +307,9 @@ module _ (ts : List Target) (consts : List ℤ) (s0 : Store) (fits : Fits ts s0)
         num_ends s ls (value_of ts consts ix s ls) _ g (expr_num ix s ls w.2 g h)
         (λ z d. index_ends s ls (target_at ts a).count at z _ g
         (λ i lt. num_ends s ls (value_of ts consts e s ls) _ g (expr_num e s ls w.3 g h)
-        (λ v f. num_ends s ls (stored op opat (read_arg ts s a i) v) _ g (stored_num op opat _ v (g.range (target_at ts a).array ((target_at ts a).from + i)) f) (λ r m. (good_stored s a i r lt m g, h)))))
+        (λ v f. num_ends s ls (stored op opat (read_arg ts s a i) v) _ g
+            (stored_num op opat _ v (g.range (target_at ts a).array ((target_at ts a).from + i)) f)
+            (λ r m. (good_stored s a i r lt m g, h)))))
     stmt_ends (If' e p a q b) s ls w g h =
         num_ends s ls (value_of ts consts e s ls) _ g (expr_num e s ls w.0 g h)
         (λ x f. cond_ends (is_zero x) _ _ (stmt_ends b s ls w.2 g h) (stmt_ends a s ls w.1 g h))
@@ -321,7 +324,8 @@ module _ (ts : List Target) (consts : List ℤ) (s0 : Store) (fits : Fits ts s0)
 pub range_stays : RangeStays
 range_stays k ts consts s resolved nums fits range =
     done (meaning ts consts k.body.statement s (replicate k.scratch (pos 0)))
-    (stmt_ends ts consts s fits nums k.params k.scratch k.body.statement s (replicate k.scratch (pos 0)) resolved.within (record { shape = record { long = refl; wide = λ y. refl }; range = range }) (no_locals k.scratch))
+    (stmt_ends ts consts s fits nums k.params k.scratch k.body.statement s (replicate k.scratch (pos 0)) resolved.within
+        (record { shape = record { long = refl; wide = λ y. refl }; range = range }) (no_locals k.scratch))
   where
     done : (o : Outcome) → Ends ts consts s fits nums k.params k.scratch o → InRange (store_after (without_locals o))
     done (Done t ls) h = h.0.range

@@ -19,7 +19,8 @@ pub on_end_value : {A : Type 0} → (P : Store → Type 0) (s : Store) (ls : Lis
 on_end_value P s ls (Err f) go p h = p
 on_end_value P s ls (Ok v) go p h = h v
 
-pub on_end_index : (P : Store → Type 0) (s : Store) (ls : List ℤ) (count : ℕ) (at : Pos) (z : ℤ) (go : ℕ → Outcome) → P s → ((i : ℕ) → i < count → OnEnd P (go i)) → OnEnd P (with_value s ls (index_in count at z) go)
+pub on_end_index : (P : Store → Type 0) (s : Store) (ls : List ℤ) (count : ℕ) (at : Pos) (z : ℤ) (go : ℕ → Outcome) → P s
+    → ((i : ℕ) → i < count → OnEnd P (go i)) → OnEnd P (with_value s ls (index_in count at z) go)
 on_end_index P s ls count at (negsuc i) go p h = p
 on_end_index P s ls count at (pos i) go p h = pick (nat_lt i count) refl
   where
@@ -48,9 +49,15 @@ module _ (ts : List Target) (consts : List ℤ) (P : Store → Type 0) (keep : (
     kept_store (SetScalar k op opat e) s ls p =
         on_end_value P s ls (value_of ts consts e s ls) _ p (λ v. on_end_value P s ls (stored op opat (slice_index_or ls k (pos 0)) v) _ p (λ r. p))
     kept_store (SetLocal from count form ix at op opat e) s ls p =
-        on_end_value P s ls (value_of ts consts ix s ls) _ p (λ z. on_end_index P s ls count at z _ p (λ i lt. on_end_value P s ls (value_of ts consts e s ls) _ p (λ v. on_end_value P s ls (stored op opat (slice_index_or ls (from + i) (pos 0)) v) _ p (λ r. p))))
+        on_end_value P s ls (value_of ts consts ix s ls) _ p
+            (λ z. on_end_index P s ls count at z _ p
+            (λ i lt. on_end_value P s ls (value_of ts consts e s ls) _ p
+            (λ v. on_end_value P s ls (stored op opat (slice_index_or ls (from + i) (pos 0)) v) _ p (λ r. p))))
     kept_store (SetArg a form ix at op opat e) s ls p =
-        on_end_value P s ls (value_of ts consts ix s ls) _ p (λ z. on_end_index P s ls (target_at ts a).count at z _ p (λ i lt. on_end_value P s ls (value_of ts consts e s ls) _ p (λ v. on_end_value P s ls (stored op opat (read_arg ts s a i) v) _ p (λ r. keep a i r s lt p))))
+        on_end_value P s ls (value_of ts consts ix s ls) _ p
+            (λ z. on_end_index P s ls (target_at ts a).count at z _ p
+            (λ i lt. on_end_value P s ls (value_of ts consts e s ls) _ p
+            (λ v. on_end_value P s ls (stored op opat (read_arg ts s a i) v) _ p (λ r. keep a i r s lt p))))
     kept_store (If' e q a r b) s ls p =
         on_end_value P s ls (value_of ts consts e s ls) _ p (λ x. on_end_cond P (is_zero x) _ _ (kept_store b s ls p) (kept_store a s ls p))
     kept_store (For' k first past q body) s ls p =
@@ -81,7 +88,8 @@ shape_stays k ts consts s fits =
     done (meaning ts consts k.body.statement s (replicate k.scratch (pos 0)))
     (kept_store ts consts (SameShape s) (λ a i v t lt h. shape_kept ts s t a i v fits lt h) k.body.statement s (replicate k.scratch (pos 0)) (record { long = refl; wide = λ y. refl }))
   where
-    done : (o : Outcome) → OnEnd (SameShape s) o → (length (store_after (without_locals o)) ≡ length s) × ((x : ℕ) → length (slice_index_or (store_after (without_locals o)) x []) ≡ length (slice_index_or s x []))
+    done : (o : Outcome) → OnEnd (SameShape s) o → (length (store_after (without_locals o)) ≡ length s)
+        × ((x : ℕ) → length (slice_index_or (store_after (without_locals o)) x []) ≡ length (slice_index_or s x []))
     done (Done t ls) h = (h.long, h.wide)
     done (Faulted t ls f) h = (h.long, h.wide)
 
@@ -91,7 +99,8 @@ pub record SameCell (s : Store) (x j : ℕ) (t : Store) : Type 0 where
   pub shape : SameShape s t
 
 -- storing into another cell keeps it
-pub cell_kept : (ts : List Target) (s t : Store) (x j a i : ℕ) (v : ℤ) → Fits ts s → i < (target_at ts a).count → ((target_at ts a).array ≡ x → (target_at ts a).from + i ≡ j → ⊥) → SameCell s x j t → SameCell s x j (store_arg ts t a i v)
+pub cell_kept : (ts : List Target) (s t : Store) (x j a i : ℕ) (v : ℤ) → Fits ts s → i < (target_at ts a).count
+    → ((target_at ts a).array ≡ x → (target_at ts a).from + i ≡ j → ⊥) → SameCell s x j t → SameCell s x j (store_arg ts t a i v)
 cell_kept ts s t x j a i v fits lt other h =
     let y = (target_at ts a).array in
     let n = (target_at ts a).from + i in
@@ -117,4 +126,5 @@ same_at_first s x j = record { here = refl; shape = record { long = refl; wide =
 pub others_stay : OthersStay
 others_stay k ts consts s x j fits reached =
     cell_after s x j (meaning ts consts k.body.statement s (replicate k.scratch (pos 0)))
-    (kept_store ts consts (SameCell s x j) (λ a i v t lt h. cell_kept ts s t x j a i v fits lt (λ e f. reached (a, i, lt, e, f)) h) k.body.statement s (replicate k.scratch (pos 0)) (same_at_first s x j))
+    (kept_store ts consts (SameCell s x j) (λ a i v t lt h. cell_kept ts s t x j a i v fits lt (λ e f. reached (a, i, lt, e, f)) h)
+        k.body.statement s (replicate k.scratch (pos 0)) (same_at_first s x j))

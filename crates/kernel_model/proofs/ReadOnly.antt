@@ -30,11 +30,17 @@ module _ (modes : List Mode) where
   target_not_read (First which) op a ix at before e m = merge_not_read which (mode_at modes a).dim a ix before (subst (λ acc. MayMerge which acc (mode_at modes a).dim a ix before) e m)
   target_not_read (Second which) op a ix at before e m = merge_not_read which (mode_at modes a).dim a ix before (subst (λ acc. MayMerge which acc (mode_at modes a).dim a ix before) e m)
 
-module _ (modes : List Mode) (ts : List Target) (consts : List ℤ) (P : Store → Type 0) (keep : (a i : ℕ) (v : ℤ) (s : Store) → ((mode_at modes a).access ≡ OpRead → ⊥) → i < (target_at ts a).count → P s → P (store_arg ts s a i v)) where
+module _ (modes : List Mode) (ts : List Target) (consts : List ℤ) (P : Store → Type 0)
+    (keep : (a i : ℕ) (v : ℤ) (s : Store) → ((mode_at modes a).access ≡ OpRead → ⊥) → i < (target_at ts a).count → P s
+    → P (store_arg ts s a i v)) where
   abbrev Fine : (st : RStmt) → Counters → Assigned → Type 0
   Fine st cs before = (w : Path st) → AllAllowed modes before (events st w cs)
 
-  turns_keep : (body : RStmt) (k : ℕ) (cs : Counters) → ((i : ℕ) (before : Assigned) (s : Store) (ls : List ℤ) → Fine body (with_counter cs k (pos i)) before → P s → OnEnd P (meaning ts consts body s ls)) → (i n : ℕ) (before : Assigned) (s : Store) (ls : List ℤ) → ((w : EachTurn (Path body) n) → AllAllowed modes before (turn_events (λ i v. events body v (with_counter cs k (pos i))) i n w)) → P s → OnEnd P (turns (meaning ts consts body) k i n s ls)
+  turns_keep : (body : RStmt) (k : ℕ) (cs : Counters)
+      → ((i : ℕ) (before : Assigned) (s : Store) (ls : List ℤ) → Fine body (with_counter cs k (pos i)) before → P s
+      → OnEnd P (meaning ts consts body s ls)) → (i n : ℕ) (before : Assigned) (s : Store) (ls : List ℤ)
+      → ((w : EachTurn (Path body) n) → AllAllowed modes before (turn_events (λ i v. events body v (with_counter cs k (pos i))) i n w))
+      → P s → OnEnd P (turns (meaning ts consts body) k i n s ls)
   turns_keep body k cs hb i zero before s ls h p = p
   turns_keep body k cs hb i (suc n) before s ls h p =
       let turn = λ (j : ℕ) (v : Path body). events body v (with_counter cs k (pos j)) in
@@ -51,7 +57,9 @@ module _ (modes : List Mode) (ts : List Target) (consts : List ℤ) (P : Store �
     stmt_keeps (SetScalar k op opat e) cs before s ls h p =
         on_end_value P s ls (value_of ts consts e s ls) _ p (λ v. on_end_value P s ls (stored op opat _ v) _ p (λ r. p))
     stmt_keeps (SetLocal from count form ix at op opat e) cs before s ls h p =
-        on_end_value P s ls (value_of ts consts ix s ls) _ p (λ z. on_end_index P s ls count at z _ p (λ i lt. on_end_value P s ls (value_of ts consts e s ls) _ p (λ v. on_end_value P s ls (stored op opat _ v) _ p (λ r. p))))
+        on_end_value P s ls (value_of ts consts ix s ls) _ p
+            (λ z. on_end_index P s ls count at z _ p
+            (λ i lt. on_end_value P s ls (value_of ts consts e s ls) _ p (λ v. on_end_value P s ls (stored op opat _ v) _ p (λ r. p))))
     stmt_keeps (SetArg a form ix at op opat e) cs before s ls h p =
         let own = own_side a form ix op e in
         let wi = some_expr_path ix in
@@ -59,7 +67,10 @@ module _ (modes : List Mode) (ts : List Target) (consts : List ℤ) (P : Store �
         let end = target_event own op a (static ix cs) at ∷ [] in
         let m = after_keeping modes (right_events own e we cs) end before (right_keeps own e we cs before) (after_expr modes ix wi cs before (right_events own e we cs ++ end) (h (wi, we))) in
         let no_read = λ (f : (mode_at modes a).access ≡ OpRead). target_not_read modes own op a (static ix cs) at before f m.0 in
-        on_end_value P s ls (value_of ts consts ix s ls) _ p (λ z. on_end_index P s ls (target_at ts a).count at z _ p (λ i lt. on_end_value P s ls (value_of ts consts e s ls) _ p (λ v. on_end_value P s ls (stored op opat (read_arg ts s a i) v) _ p (λ r. keep a i r s no_read lt p))))
+        on_end_value P s ls (value_of ts consts ix s ls) _ p
+            (λ z. on_end_index P s ls (target_at ts a).count at z _ p
+            (λ i lt. on_end_value P s ls (value_of ts consts e s ls) _ p
+            (λ v. on_end_value P s ls (stored op opat (read_arg ts s a i) v) _ p (λ r. keep a i r s no_read lt p))))
     stmt_keeps (If' e q a r b) cs before s ls h p =
         let we = some_expr_path e in
         on_end_value P s ls (value_of ts consts e s ls) _ p
@@ -68,7 +79,8 @@ module _ (modes : List Mode) (ts : List Target) (consts : List ℤ) (P : Store �
     stmt_keeps (For' k first past q body) cs before s ls h p =
         turns_keep body k cs (λ i b s' ls' f p'. stmt_keeps body (with_counter cs k (pos i)) b s' ls' f p') first (past - first) before s ls h p
 
-    row_keeps : {m : _} → (all : Row_of-RStmt m) (cs : Counters) (before : Assigned) (s : Store) (ls : List ℤ) → ((w : RowPath all) → AllAllowed modes before (row_events all w cs)) → P s → OnEnd P (meaning_of_all ts consts all s ls)
+    row_keeps : {m : _} → (all : Row_of-RStmt m) (cs : Counters) (before : Assigned) (s : Store) (ls : List ℤ)
+        → ((w : RowPath all) → AllAllowed modes before (row_events all w cs)) → P s → OnEnd P (meaning_of_all ts consts all s ls)
     row_keeps end_of-RStmt cs before s ls h p = p
     row_keeps (more_of-RStmt first rest) cs before s ls h p =
         let one = some_path first in
@@ -80,4 +92,6 @@ module _ (modes : List Mode) (ts : List Target) (consts : List ℤ) (P : Store �
 pub reads_stay : ReadsStay
 reads_stay k modes ts consts s x j obeys fits only =
     cell_after s x j (meaning ts consts k.body.statement s (replicate k.scratch (pos 0)))
-    (stmt_keeps modes ts consts (SameCell s x j) (λ a i v t no_read lt h. cell_kept ts s t x j a i v fits lt (λ e f. no_read (only a i lt e f)) h) k.body.statement no_counters [] s (replicate k.scratch (pos 0)) (λ w. (obeys w).0) (same_at_first s x j))
+    (stmt_keeps modes ts consts (SameCell s x j)
+        (λ a i v t no_read lt h. cell_kept ts s t x j a i v fits lt (λ e f. no_read (only a i lt e f)) h) k.body.statement no_counters [] s
+        (replicate k.scratch (pos 0)) (λ w. (obeys w).0) (same_at_first s x j))

@@ -14,7 +14,8 @@ use Rattle.kernel_model.proofs.Locals.{OnDone}
 use Rattle.kernel_model.proofs.Agreement.{Known, known_rw, Agrees, same_stored, sum_stored, more_added, more_taken}
 use Rattle.kernel_model.proofs.SameValues.{known_if_read}
 
-module _ (modes : List Mode) (consts : List ℤ) (ts us : List Target) (aliases : SameStoredAliases modes ts us) (s0 t0 : Store) (counts_s : (a : ℕ) → (target_at ts a).count ≡ dim modes a) (counts_t : (a : ℕ) → (target_at us a).count ≡ dim modes a) where
+module _ (modes : List Mode) (consts : List ℤ) (ts us : List Target) (aliases : SameStoredAliases modes ts us) (s0 t0 : Store)
+    (counts_s : (a : ℕ) → (target_at ts a).count ≡ dim modes a) (counts_t : (a : ℕ) → (target_at us a).count ≡ dim modes a) where
   abbrev Agree : Assigned → Store → Store → Type 0
   Agree before s t = Agrees modes ts us aliases s0 t0 before s t
 
@@ -31,14 +32,17 @@ module _ (modes : List Mode) (consts : List ℤ) (ts us : List Target) (aliases 
   ends_weaker R Q f (Done s ls) (Faulted t ms g) h = absurd h
   ends_weaker R Q f (Faulted s ls g) (Done t ms) h = absurd h
 
-  pub ends_then : (R Q : Assigned → Type 0) (P : List ℤ → Type 0) (o p : Outcome) (go go' : Store → List ℤ → Outcome) → Ends R o p → OnDone P o → ((b : Assigned) (s t : Store) (ls : List ℤ) → R b → P ls → Agree b s t → Ends Q (go s ls) (go' t ls)) → Ends Q (then_do o go) (then_do p go')
+  pub ends_then : (R Q : Assigned → Type 0) (P : List ℤ → Type 0) (o p : Outcome) (go go' : Store → List ℤ → Outcome) → Ends R o p
+      → OnDone P o → ((b : Assigned) (s t : Store) (ls : List ℤ) → R b → P ls → Agree b s t → Ends Q (go s ls) (go' t ls))
+      → Ends Q (then_do o go) (then_do p go')
   ends_then R Q P (Done s ls) (Done t ms) go go' h d f =
       subst (λ l. Ends Q (go s ls) (go' t l)) h.2 (f h.0 s t ls h.1 d h.3)
   ends_then R Q P (Faulted s ls g) (Faulted t ms k) go go' h d f = h
   ends_then R Q P (Done s ls) (Faulted t ms g) go go' h d f = absurd h
   ends_then R Q P (Faulted s ls g) (Done t ms) go go' h d f = absurd h
 
-  pub ends_value : {A : Type 0} → (Q : Assigned → Type 0) (s t : Store) (ls : List ℤ) (r r' : Result A KernelFault) (go go' : A → Outcome) → r ≡ r' → ((v : A) → r' ≡ Ok v → Ends Q (go v) (go' v)) → Ends Q (with_value s ls r go) (with_value t ls r' go')
+  pub ends_value : {A : Type 0} → (Q : Assigned → Type 0) (s t : Store) (ls : List ℤ) (r r' : Result A KernelFault) (go go' : A → Outcome)
+      → r ≡ r' → ((v : A) → r' ≡ Ok v → Ends Q (go v) (go' v)) → Ends Q (with_value s ls r go) (with_value t ls r' go')
   ends_value {A} Q s t ls r r' go go' e h = subst (λ x. Ends Q (with_value s ls x go) (with_value t ls r' go')) (sym e) (core r' h)
     where
       core : (x : Result A KernelFault) → ((v : A) → x ≡ Ok v → Ends Q (go v) (go' v)) → Ends Q (with_value s ls x go) (with_value t ls x go')
@@ -51,7 +55,8 @@ module _ (modes : List Mode) (consts : List ℤ) (ts us : List Target) (aliases 
 
   -- ---- one store
 
-  module _ (Q : Assigned → Type 0) (before : Assigned) (s t : Store) (ls : List ℤ) (a i : ℕ) (ix : Option ℤ) (lt : i < dim modes a) (hz : (z : ℤ) → ix ≡ Some z → z ≡ pos i) (ag : Agree before s t) (q : Q (with_assigned a ix before)) where
+  module _ (Q : Assigned → Type 0) (before : Assigned) (s t : Store) (ls : List ℤ) (a i : ℕ) (ix : Option ℤ) (lt : i < dim modes a)
+      (hz : (z : ℤ) → ix ≡ Some z → z ≡ pos i) (ag : Agree before s t) (q : Q (with_assigned a ix before)) where
     abbrev StoreEnds : Value → Value → Type 0
     StoreEnds x y = Ends Q (with_value s ls x (λ r. Done (store_arg ts s a i r) ls)) (with_value t ls y (λ r. Done (store_arg us t a i r) ls))
 
@@ -67,16 +72,19 @@ module _ (modes : List Mode) (consts : List ℤ) (ts us : List Target) (aliases 
     plain_store (OpReduce r) v e m = absurd m
 
     -- a store over an old value that is the same in both runs
-    over_known : (acc : Access) (op : AssignOp) (opat : Pos) (v : ℤ) → access modes a ≡ acc → ((r : Reduction) → acc ≡ OpReduce r → ⊥) → acc ≢ OpRead → Known modes before a i → StoreEnds (stored op opat (read_arg ts s a i) v) (stored op opat (read_arg us t a i) v)
+    over_known : (acc : Access) (op : AssignOp) (opat : Pos) (v : ℤ) → access modes a ≡ acc → ((r : Reduction) → acc ≡ OpReduce r → ⊥)
+        → acc ≢ OpRead → Known modes before a i → StoreEnds (stored op opat (read_arg ts s a i) v) (stored op opat (read_arg us t a i) v)
     over_known acc op opat v e n m k = one_value acc _ _ e n m (ap (λ o. stored op opat o v) (ag.known a i lt k))
 
-    change_store : (acc : Access) (op : AssignOp) (opat : Pos) (v : ℤ) → access modes a ≡ acc → MayChange acc (dim modes a) a ix before → StoreEnds (stored op opat (read_arg ts s a i) v) (stored op opat (read_arg us t a i) v)
+    change_store : (acc : Access) (op : AssignOp) (opat : Pos) (v : ℤ) → access modes a ≡ acc → MayChange acc (dim modes a) a ix before
+        → StoreEnds (stored op opat (read_arg ts s a i) v) (stored op opat (read_arg us t a i) v)
     change_store OpRead op opat v e m = absurd m
     change_store OpRw op opat v e m = over_known OpRw op opat v e (λ r f. cc) (λ f. cc) (known_rw e)
     change_store OpWrite op opat v e m = over_known OpWrite op opat v e (λ r f. cc) (λ f. cc) (known_if_read modes consts ts us aliases s0 t0 counts_s counts_t OpWrite a i ix before e m hz)
     change_store (OpReduce r) op opat v e m = absurd m
 
-    add_store : (acc : Access) (opat : Pos) (v : ℤ) → access modes a ≡ acc → MayAdd acc (dim modes a) a ix before → StoreEnds (stored assign.Add opat (read_arg ts s a i) v) (stored assign.Add opat (read_arg us t a i) v)
+    add_store : (acc : Access) (opat : Pos) (v : ℤ) → access modes a ≡ acc → MayAdd acc (dim modes a) a ix before
+        → StoreEnds (stored assign.Add opat (read_arg ts s a i) v) (stored assign.Add opat (read_arg us t a i) v)
     add_store OpRead opat v e m = absurd m
     add_store OpRw opat v e m = change_store OpRw assign.Add opat v e m
     add_store OpWrite opat v e m = change_store OpWrite assign.Add opat v e m
@@ -85,7 +93,8 @@ module _ (modes : List Mode) (consts : List ℤ) (ts us : List Target) (aliases 
     add_store (OpReduce Min) opat v e m = absurd m
     add_store (OpReduce Max) opat v e m = absurd m
 
-    sub_store : (acc : Access) (opat : Pos) (v : ℤ) → access modes a ≡ acc → MayAdd acc (dim modes a) a ix before → StoreEnds (stored assign.Sub opat (read_arg ts s a i) v) (stored assign.Sub opat (read_arg us t a i) v)
+    sub_store : (acc : Access) (opat : Pos) (v : ℤ) → access modes a ≡ acc → MayAdd acc (dim modes a) a ix before
+        → StoreEnds (stored assign.Sub opat (read_arg ts s a i) v) (stored assign.Sub opat (read_arg us t a i) v)
     sub_store OpRead opat v e m = absurd m
     sub_store OpRw opat v e m = change_store OpRw assign.Sub opat v e m
     sub_store OpWrite opat v e m = change_store OpWrite assign.Sub opat v e m

@@ -92,7 +92,8 @@ mutual
 abbrev Binary_value : BinaryOp → Pos → Value → Value → Value
 Binary_value op at u v = and_then u (λ a. cond (is_settled op a) (Ok (truth (not (is_zero a)))) (and_then v (λ b. apply op at a b)))
 
-static_of_op : (op : BinaryOp) (at : Pos) (x y : Option ℤ) (u v : Value) (z : ℤ) → ((w : ℤ) → x ≡ Some w → u ≡ Ok w) → ((w : ℤ) → y ≡ Some w → v ≡ Ok w) → static_op op x y ≡ Some z → Binary_value op at u v ≡ Ok z
+static_of_op : (op : BinaryOp) (at : Pos) (x y : Option ℤ) (u v : Value) (z : ℤ) → ((w : ℤ) → x ≡ Some w → u ≡ Ok w)
+    → ((w : ℤ) → y ≡ Some w → v ≡ Ok w) → static_op op x y ≡ Some z → Binary_value op at u v ≡ Ok z
 static_of_op binary.Add at (Some x) (Some y) u v z p q e =
     ap (λ r. and_then r (λ a. and_then v (λ b. apply binary.Add at a b))) (p x refl) ∙ ap (λ r. and_then r (λ b. apply binary.Add at x b)) (q y refl) ∙ (let k : sum x y ≡ z = cc in ap Ok k)
 static_of_op binary.Sub at (Some x) (Some y) u v z p q e =
@@ -112,7 +113,8 @@ static_value ts consts (Scalar k) cs s ls h z e = ap Ok (h k z e)
 static_value ts consts (Unary' op p a) cs s ls h z e =
     static_of_unary op (static a cs) (value_of ts consts a s ls) z (λ w f. static_value ts consts a cs s ls h w f) e
 static_value ts consts (Binary' op p a q b at) cs s ls h z e =
-    static_of_op op at (static a cs) (static b cs) (value_of ts consts a s ls) (value_of ts consts b s ls) z (λ w f. static_value ts consts a cs s ls h w f) (λ w f. static_value ts consts b cs s ls h w f) e
+    static_of_op op at (static a cs) (static b cs) (value_of ts consts a s ls) (value_of ts consts b s ls) z
+        (λ w f. static_value ts consts a cs s ls h w f) (λ w f. static_value ts consts b cs s ls h w f) e
 static_value ts consts (Paren' p a) cs s ls h z e = static_value ts consts a cs s ls h z e
 static_value ts consts e cs s ls h z f = absurd (let k : ⊥ = cc in k)
 

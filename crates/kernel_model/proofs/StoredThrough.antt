@@ -26,9 +26,15 @@ module _ (ts : List Target) (consts : List ℤ) (P : Store → Type 0) (may : �
     stmt_keeps (SetScalar k op opat e) h s ls p =
         on_end_value P s ls (value_of ts consts e s ls) _ p (λ v. on_end_value P s ls (stored op opat (slice_index_or ls k (pos 0)) v) _ p (λ r. p))
     stmt_keeps (SetLocal from count form ix at op opat e) h s ls p =
-        on_end_value P s ls (value_of ts consts ix s ls) _ p (λ z. on_end_index P s ls count at z _ p (λ i lt. on_end_value P s ls (value_of ts consts e s ls) _ p (λ v. on_end_value P s ls (stored op opat (slice_index_or ls (from + i) (pos 0)) v) _ p (λ r. p))))
+        on_end_value P s ls (value_of ts consts ix s ls) _ p
+            (λ z. on_end_index P s ls count at z _ p
+            (λ i lt. on_end_value P s ls (value_of ts consts e s ls) _ p
+            (λ v. on_end_value P s ls (stored op opat (slice_index_or ls (from + i) (pos 0)) v) _ p (λ r. p))))
     stmt_keeps (SetArg a form ix at op opat e) h s ls p =
-        on_end_value P s ls (value_of ts consts ix s ls) _ p (λ z. on_end_index P s ls (target_at ts a).count at z _ p (λ i lt. on_end_value P s ls (value_of ts consts e s ls) _ p (λ v. on_end_value P s ls (stored op opat (read_arg ts s a i) v) _ p (λ r. keep a i r s (h a (eq-eqb a a refl)) lt p))))
+        on_end_value P s ls (value_of ts consts ix s ls) _ p
+            (λ z. on_end_index P s ls (target_at ts a).count at z _ p
+            (λ i lt. on_end_value P s ls (value_of ts consts e s ls) _ p
+            (λ v. on_end_value P s ls (stored op opat (read_arg ts s a i) v) _ p (λ r. keep a i r s (h a (eq-eqb a a refl)) lt p))))
     stmt_keeps (If' e q a r b) h s ls p =
         on_end_value P s ls (value_of ts consts e s ls) _ p
         (λ x. on_end_cond P (is_zero x) _ _ (stmt_keeps b (λ c g. h c (or_right (stores_through c a) (stores_through c b) g)) s ls p)
@@ -46,13 +52,20 @@ module _ (ts : List Target) (consts : List ℤ) (P : Store → Type 0) (may : �
 pub unstored_stay : UnstoredStay
 unstored_stay k ts consts s x j fits unstored =
     cell_after s x j (meaning ts consts k.body.statement s (replicate k.scratch (pos 0)))
-    (stmt_keeps ts consts (SameCell s x j) (λ a. stores_through a k.body.statement ≡ true) (λ a i v t may lt h. cell_kept ts s t x j a i v fits lt (λ e f. not_both (stores_through a k.body.statement) may (unstored a i lt e f)) h) k.body.statement (λ a e. e) s (replicate k.scratch (pos 0)) (same_at_first s x j))
+    (stmt_keeps ts consts (SameCell s x j) (λ a. stores_through a k.body.statement ≡ true)
+        (λ a i v t may lt h. cell_kept ts s t x j a i v fits lt
+        (λ e f. not_both (stores_through a k.body.statement) may (unstored a i lt e f)) h) k.body.statement (λ a e. e) s
+        (replicate k.scratch (pos 0)) (same_at_first s x j))
 
 -- ---- examples
 
 -- if (a[0]) b[0] = 2; stores through b, its second parameter, and not through a
-stores_on_one_branch : (p q r : _) (at : Pos) → stores_through 1 (If' (Arg' 0 form.Index p (Number (pos 0)) at) q (SetArg 1 form.Index (Number (pos 0)) at assign.Set at (Number (pos 2))) r (Declare 0 0)) ≡ true
+stores_on_one_branch : (p q r : _) (at : Pos) → stores_through 1
+    (If' (Arg' 0 form.Index p (Number (pos 0)) at) q (SetArg 1 form.Index (Number (pos 0)) at assign.Set at (Number (pos 2))) r
+    (Declare 0 0)) ≡ true
 stores_on_one_branch p q r at = refl
 
-reads_alone : (p q r : _) (at : Pos) → stores_through 0 (If' (Arg' 0 form.Index p (Number (pos 0)) at) q (SetArg 1 form.Index (Number (pos 0)) at assign.Set at (Number (pos 2))) r (Declare 0 0)) ≡ false
+reads_alone : (p q r : _) (at : Pos) → stores_through 0
+    (If' (Arg' 0 form.Index p (Number (pos 0)) at) q (SetArg 1 form.Index (Number (pos 0)) at assign.Set at (Number (pos 2))) r
+    (Declare 0 0)) ≡ false
 reads_alone p q r at = refl

@@ -31,7 +31,9 @@ cell-with_cell s x k y j v hx hk = go (nat_eq x y) (nat_eq k j) refl refl
         let ne : y ≢ x = λ q. eqb-false x y e (sym q) in
         ap (λ l. get_or l j (pos 0)) (array-with_cell_other s x k y v ne)
 
-pub read_arg-store_arg : (ts : List Target) (s : Store) (a i b j : ℕ) (v : ℤ) → (target_at ts a).array < length s → (target_at ts a).from + i < length (get_or s (target_at ts a).array []) → read_arg ts (store_arg ts s a i v) b j ≡ cond (same_cell ts a i b j) v (read_arg ts s b j)
+pub read_arg-store_arg : (ts : List Target) (s : Store) (a i b j : ℕ) (v : ℤ) → (target_at ts a).array < length s
+    → (target_at ts a).from + i < length (get_or s (target_at ts a).array [])
+    → read_arg ts (store_arg ts s a i v) b j ≡ cond (same_cell ts a i b j) v (read_arg ts s b j)
 read_arg-store_arg ts s a i b j v hx hk =
     cell-with_cell s (target_at ts a).array ((target_at ts a).from + i) (target_at ts b).array ((target_at ts b).from + j) v hx hk
 
@@ -53,7 +55,8 @@ length-array_with_cell s x k y v hx = go (nat_eq x y) refl
 pub read-same_cell : (ts : List Target) (s : Store) (a i b j : ℕ) → same_cell ts a i b j ≡ true → read_arg ts s a i ≡ read_arg ts s b j
 read-same_cell ts s a i b j e = go (nat_eq (target_at ts a).array (target_at ts b).array) (nat_eq ((target_at ts a).from + i) ((target_at ts b).from + j)) refl refl e
   where
-    go : (p q : Bool) → nat_eq (target_at ts a).array (target_at ts b).array ≡ p → nat_eq ((target_at ts a).from + i) ((target_at ts b).from + j) ≡ q → (p && q) ≡ true → read_arg ts s a i ≡ read_arg ts s b j
+    go : (p q : Bool) → nat_eq (target_at ts a).array (target_at ts b).array ≡ p
+        → nat_eq ((target_at ts a).from + i) ((target_at ts b).from + j) ≡ q → (p && q) ≡ true → read_arg ts s a i ≡ read_arg ts s b j
     go true true f g h =
         let p : (target_at ts a).array ≡ (target_at ts b).array = eqb-true _ _ f in
         let q : (target_at ts a).from + i ≡ (target_at ts b).from + j = eqb-true _ _ g in

@@ -23,7 +23,8 @@ and_fourth : (a b c d : Bool) → (a && (b && (c && d))) ≡ true → d ≡ true
 and_fourth a b c d e = and_second c d (and_second b (c && d) (and_second a (b && (c && d)) e))
 
 -- a fault gives no value
-chained : {A : Type 0} → (r r' : Result A KernelFault) (go go' : A → Value) (z : ℤ) → ((x : A) → r ≡ Ok x → r' ≡ Ok x) → ((x : A) → go x ≡ Ok z → go' x ≡ Ok z) → on_value Err r go ≡ Ok z → on_value Err r' go' ≡ Ok z
+chained : {A : Type 0} → (r r' : Result A KernelFault) (go go' : A → Value) (z : ℤ) → ((x : A) → r ≡ Ok x → r' ≡ Ok x)
+    → ((x : A) → go x ≡ Ok z → go' x ≡ Ok z) → on_value Err r go ≡ Ok z → on_value Err r' go' ≡ Ok z
 chained {A} (Ok x) r' go go' z f g e = ap (λ r. on_value Err r go') (f x refl) ∙ g x e
 chained {A} (Err f) r' go go' z h g e = absurd (let k : ⊥ = cc in k)
 
@@ -106,7 +107,9 @@ module _ (ts : List Target) (consts : List ℤ) (s : Store) (ls : List ℤ) wher
   val e = value_of ts consts e s ls
 
   -- an element of one array, at two places
-  element_other : (count : ℕ) (at bt : Pos) (r r' : Value) (read : ℕ → ℤ) (z : ℤ) → ((x : ℤ) → r ≡ Ok x → r' ≡ Ok x) → and_then r (λ z. and_then (index_in count at z) (λ i. Ok (read i))) ≡ Ok z → and_then r' (λ z. and_then (index_in count bt z) (λ i. Ok (read i))) ≡ Ok z
+  element_other : (count : ℕ) (at bt : Pos) (r r' : Value) (read : ℕ → ℤ) (z : ℤ) → ((x : ℤ) → r ≡ Ok x → r' ≡ Ok x)
+      → and_then r (λ z. and_then (index_in count at z) (λ i. Ok (read i))) ≡ Ok z
+      → and_then r' (λ z. and_then (index_in count bt z) (λ i. Ok (read i))) ≡ Ok z
   element_other count at bt r r' read z f v =
       chained r r' _ _ z f (λ x w. chained (index_in count at x) (index_in count bt x) _ _ z (λ i u. index_other_place count at bt x i u) (λ i u. u) w) v
 
@@ -123,13 +126,17 @@ module _ (ts : List Target) (consts : List ℤ) (s : Store) (ls : List ℤ) wher
       let l : count ≡ other_count = eqb-true count other_count (and_first _ _ (and_second _ _ h)) in
       subst (λ c. and_then (val f) (λ z. and_then (index_in c bt z) (λ i. Ok (slice_index_or ls (other_from + i) (pos 0)))) ≡ Ok z) l
       (subst (λ g. and_then (val f) (λ z. and_then (index_in count bt z) (λ i. Ok (slice_index_or ls (g + i) (pos 0)))) ≡ Ok z) k
-      (element_other count at bt (val e) (val f) (λ i. slice_index_or ls (from + i) (pos 0)) z (λ x w. same_value e f (and_fourth (nat_eq from other_from) (nat_eq count other_count) (same_form form other_form) (same_tokens e f) h) x w) v))
+      (element_other count at bt (val e) (val f) (λ i. slice_index_or ls (from + i) (pos 0)) z
+          (λ x w. same_value e f (and_fourth (nat_eq from other_from) (nat_eq count other_count) (same_form form other_form)
+          (same_tokens e f) h) x w) v))
   same_value (Const' from count form p e at) (Const' other_from other_count other_form q f bt) h z v =
       let k : from ≡ other_from = eqb-true from other_from (and_first _ _ h) in
       let l : count ≡ other_count = eqb-true count other_count (and_first _ _ (and_second _ _ h)) in
       subst (λ c. and_then (val f) (λ z. and_then (index_in c bt z) (λ i. Ok (slice_index_or consts (other_from + i) (pos 0)))) ≡ Ok z) l
       (subst (λ g. and_then (val f) (λ z. and_then (index_in count bt z) (λ i. Ok (slice_index_or consts (g + i) (pos 0)))) ≡ Ok z) k
-      (element_other count at bt (val e) (val f) (λ i. slice_index_or consts (from + i) (pos 0)) z (λ x w. same_value e f (and_fourth (nat_eq from other_from) (nat_eq count other_count) (same_form form other_form) (same_tokens e f) h) x w) v))
+      (element_other count at bt (val e) (val f) (λ i. slice_index_or consts (from + i) (pos 0)) z
+          (λ x w. same_value e f (and_fourth (nat_eq from other_from) (nat_eq count other_count) (same_form form other_form)
+          (same_tokens e f) h) x w) v))
   same_value (Unary' op p a) (Unary' oq q b) h z v =
       let k : op ≡ oq = same_unary_is op oq (and_first _ _ h) in
       subst (λ o. and_then (val b) (λ x. Ok (apply_unary o x)) ≡ Ok z) k

@@ -94,11 +94,22 @@ module _ (ts : List Target) (consts : List ℤ) where
     run_is (SetScalar k op opat e) s ls =
         ap (λ w. with_value s ls w (λ v. with_value s ls (stored op opat (slice_index_or ls k (pos 0)) v) (λ r. Done s (slice_set ls k r)))) (value_is e s ls)
     run_is (SetLocal from count form ix at op opat e) s ls =
-        ap (λ w. with_value s ls w (λ z. with_value s ls (index_in count at z) (λ i. with_value s ls (value_of ts consts e s ls) (λ v. with_value s ls (stored op opat (slice_index_or ls (from + i) (pos 0)) v) (λ r. Done s (slice_set ls (from + i) r)))))) (value_is ix s ls)
-        ∙ ap (λ w. with_value s ls (value (rexpr_of ix) s ls) (λ z. with_value s ls (index_in count at z) (λ i. with_value s ls w (λ v. with_value s ls (stored op opat (slice_index_or ls (from + i) (pos 0)) v) (λ r. Done s (slice_set ls (from + i) r)))))) (value_is e s ls)
+        ap (λ w. with_value s ls w (λ z. with_value s ls (index_in count at z)
+            (λ i. with_value s ls (value_of ts consts e s ls)
+            (λ v. with_value s ls (stored op opat (slice_index_or ls (from + i) (pos 0)) v) (λ r. Done s (slice_set ls (from + i) r))))))
+            (value_is ix s ls)
+        ∙ ap (λ w. with_value s ls (value (rexpr_of ix) s ls)
+            (λ z. with_value s ls (index_in count at z)
+            (λ i. with_value s ls w (λ v. with_value s ls (stored op opat (slice_index_or ls (from + i) (pos 0)) v)
+            (λ r. Done s (slice_set ls (from + i) r)))))) (value_is e s ls)
     run_is (SetArg a form ix at op opat e) s ls =
-        ap (λ w. with_value s ls w (λ z. with_value s ls (index_in (target_at ts a).count at z) (λ i. with_value s ls (value_of ts consts e s ls) (λ v. with_value s ls (stored op opat (read_arg ts s a i) v) (λ r. Done (store_arg ts s a i r) ls))))) (value_is ix s ls)
-        ∙ ap (λ w. with_value s ls (value (rexpr_of ix) s ls) (λ z. with_value s ls (index_in (target_at ts a).count at z) (λ i. with_value s ls w (λ v. with_value s ls (stored op opat (read_arg ts s a i) v) (λ r. Done (store_arg ts s a i r) ls))))) (value_is e s ls)
+        ap (λ w. with_value s ls w (λ z. with_value s ls (index_in (target_at ts a).count at z)
+            (λ i. with_value s ls (value_of ts consts e s ls)
+            (λ v. with_value s ls (stored op opat (read_arg ts s a i) v) (λ r. Done (store_arg ts s a i r) ls))))) (value_is ix s ls)
+        ∙ ap (λ w. with_value s ls (value (rexpr_of ix) s ls)
+            (λ z. with_value s ls (index_in (target_at ts a).count at z)
+            (λ i. with_value s ls w (λ v. with_value s ls (stored op opat (read_arg ts s a i) v) (λ r. Done (store_arg ts s a i r) ls)))))
+            (value_is e s ls)
     run_is (If' e p a q b) s ls =
         ap (λ w. with_value s ls w (λ x. cond (is_zero x) (meaning ts consts b s ls) (meaning ts consts a s ls))) (value_is e s ls)
         ∙ ap (λ o. with_value s ls (value (rexpr_of e) s ls) (λ x. cond (is_zero x) o (meaning ts consts a s ls))) (run_is b s ls)

@@ -26,7 +26,8 @@ one_more false false true m s t h k = rw (h, k refl) refl
 one_more false false false m s t h k = rw h refl
 
 -- one more rank was added to the elements of its list
-pub rank_more : (initial cur now single : Bool) (r n : ℕ) (st : ℕ → Bool) → cur ≡ (initial || (ltb r n && st r)) → single ≡ nat_eq r n → now ≡ (cur || (single && st n)) → now ≡ (initial || (ltb r (n + 1) && st r))
+pub rank_more : (initial cur now single : Bool) (r n : ℕ) (st : ℕ → Bool) → cur ≡ (initial || (ltb r n && st r)) → single ≡ nat_eq r n
+    → now ≡ (cur || (single && st n)) → now ≡ (initial || (ltb r (n + 1) && st r))
 rank_more initial cur now single r n st h q k =
     k ∙ (ap (λ z. z || (single && st n)) h ∙ (ap (λ z. (initial || (ltb r n && st r)) || (z && st n)) q
     ∙ one_more initial (ltb r n) (nat_eq r n) (ltb r (n + 1)) (st r) (st n) (below_more_test r n) (λ e. sym (ap st (eqb-true r n e)))))
@@ -56,5 +57,6 @@ all_added lists i cur r n x l h = ⊎_elim
 pub empty_long : (now items : List (Vec ℕ Global)) (rooms counts : List ℕ) (n : ℕ) → now ≡ items → length items ≡ length rooms → rooms ≡ counts → length counts ≡ n → length now ≡ n
 empty_long now items rooms counts n e l q h = ap (length {A = Vec ℕ Global}) e ∙ (l ∙ (ap (length {A = ℕ}) q ∙ h))
 
-pub empty_rows : (now items : List (Vec ℕ Global)) (rooms counts : List ℕ) (n : ℕ) → now ≡ items → rooms ≡ counts → length counts ≡ n → ((r : ℕ) → r < length rooms → row items r ≡ []) → (r : ℕ) → r < n → row now r ≡ []
+pub empty_rows : (now items : List (Vec ℕ Global)) (rooms counts : List ℕ) (n : ℕ) → now ≡ items → rooms ≡ counts → length counts ≡ n
+    → ((r : ℕ) → r < length rooms → row items r ≡ []) → (r : ℕ) → r < n → row now r ≡ []
 empty_rows now items rooms counts n e q h none r l = ap (λ (z : List (Vec ℕ Global)). row z r) e ∙ none r (rw (q, h) l)

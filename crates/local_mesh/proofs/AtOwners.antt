@@ -89,7 +89,9 @@ own_numbers g o meshes s original owners ls one is size kept =
     }
 
 -- what is read at a list of elements are their local numbers, where each has its own in the table
-pub read_locals : (numbers elements locals original : List ℕ) → AreRead numbers elements locals → ((k : ℕ) → k < length elements → IsLocal original (get_or elements k 0) (get_or numbers (get_or elements k 0) 0)) → AreLocals original elements locals
+pub read_locals : (numbers elements locals original : List ℕ) → AreRead numbers elements locals
+    → ((k : ℕ) → k < length elements → IsLocal original (get_or elements k 0) (get_or numbers (get_or elements k 0) 0))
+    → AreLocals original elements locals
 read_locals numbers elements locals original h each = record {
   count = h.count;
   each = λ k l. subst (λ z. IsLocal original (get_or elements k 0) z) (sym (h.each k l)) (each k l);
@@ -123,7 +125,8 @@ module _ (g : MeshValue) (o : Owners) (s : ℕ) (h : SetHalo) (is : IsSetHalo g 
   export_within a r la lr k l = (exported g o s a r (row (rows h.exports.items a) r) (is.exports a r la lr) k l).0
 
   -- local numbers of the exports, from those on owners
-  pub export_locals : (meshes : List RankMesh) (numbers : List ℕ) → AreAtOwners g o meshes s numbers → (a r : ℕ) → a < o.ranks → r < o.ranks → (locals : List ℕ) → AreRead numbers (row (rows h.exports.items a) r) locals
+  pub export_locals : (meshes : List RankMesh) (numbers : List ℕ) → AreAtOwners g o meshes s numbers → (a r : ℕ) → a < o.ranks → r < o.ranks
+      → (locals : List ℕ) → AreRead numbers (row (rows h.exports.items a) r) locals
       → AreLocals (originals_of meshes a s) (row (rows h.exports.items a) r) locals
   export_locals meshes numbers at a r la lr locals read =
       read_locals numbers (row (rows h.exports.items a) r) locals (originals_of meshes a s) read
@@ -133,7 +136,8 @@ module _ (g : MeshValue) (o : Owners) (s : ℕ) (h : SetHalo) (is : IsSetHalo g 
       subst (λ z. IsLocal (originals_of meshes z s) x (get_or numbers x 0)) e.1 (at.each x e.0))
 
   -- local numbers of a rank's imports, from those of all its elements
-  pub import_locals : (r : ℕ) (sets : List LocalSet) (numbers : List ℕ) → r < o.ranks → IsHeld g o s r sets → ((k : ℕ) → k < length (originals_in sets s) → get_or numbers (get_or (originals_in sets s) k 0) 0 ≡ k)
+  pub import_locals : (r : ℕ) (sets : List LocalSet) (numbers : List ℕ) → r < o.ranks → IsHeld g o s r sets
+      → ((k : ℕ) → k < length (originals_in sets s) → get_or numbers (get_or (originals_in sets s) k 0) 0 ≡ k)
       → (a : ℕ) → a < o.ranks → (locals : List ℕ) → AreRead numbers (row (rows h.exports.items a) r) locals → AreLocals (originals_in sets s) (row (rows h.exports.items a) r) locals
   import_locals r sets numbers lr held at a la locals read =
       read_locals numbers (row (rows h.exports.items a) r) locals (originals_in sets s) read

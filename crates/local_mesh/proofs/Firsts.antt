@@ -88,18 +88,22 @@ module _ (g : MeshValue) (o : Owners) (p : Perms) (r : ℕ) (m : RankMesh) (is :
   pub owned_first : (k : ℕ) → k < length (originals_in m.sets.items s) → (k < own_in m.sets.items s) ↔ (owns o s (get_or (originals_in m.sets.items s) k 0) r ≡ true)
   owned_first k lk =
       let b : k < length (get_or m.sets.items s some).original = subst (λ (z : List ℕ). k < length z) at lk in
-      rw (at, own) (own_first (set_size g s) (by_new p s) (λ x. owns o s x r) (λ x. imports_execute g o s x r) (λ x. imports_nonexecute g o s x r) (get_or m.sets.items s some).original set.inverse k b)
+      rw (at, own) (own_first (set_size g s) (by_new p s) (λ x. owns o s x r) (λ x. imports_execute g o s x r)
+          (λ x. imports_nonexecute g o s x r) (get_or m.sets.items s some).original set.inverse k b)
 
   pub executing_first : (k : ℕ) → k < length (originals_in m.sets.items s) → (k < executed_in m.sets.items s) ↔ (executes g o s (get_or (originals_in m.sets.items s) k 0) r ≡ true)
   unfolding executes
   executing_first k lk =
       let b : k < length (get_or m.sets.items s some).original = subst (λ (z : List ℕ). k < length z) at lk in
-      rw (at, executed) (executed_first (set_size g s) (by_new p s) (λ x. owns o s x r) (λ x. imports_execute g o s x r) (λ x. imports_nonexecute g o s x r) (get_or m.sets.items s some).original set.inverse k b)
+      rw (at, executed) (executed_first (set_size g s) (by_new p s) (λ x. owns o s x r) (λ x. imports_execute g o s x r)
+          (λ x. imports_nonexecute g o s x r) (get_or m.sets.items s some).original set.inverse k b)
 
-  pub distinct : ArePerms g p → (j k : ℕ) → j < length (originals_in m.sets.items s) → k < length (originals_in m.sets.items s) → get_or (originals_in m.sets.items s) j 0 ≡ get_or (originals_in m.sets.items s) k 0 → j ≡ k
+  pub distinct : ArePerms g p → (j k : ℕ) → j < length (originals_in m.sets.items s) → k < length (originals_in m.sets.items s)
+      → get_or (originals_in m.sets.items s) j 0 ≡ get_or (originals_in m.sets.items s) k 0 → j ≡ k
   distinct perms j k lj lk e =
       let apart : (i h : ℕ) → i < h → h < length (get_or m.sets.items s some).original → get_or (get_or m.sets.items s some).original i 0 ≡ get_or (get_or m.sets.items s some).original h 0 → ⊥ =
-      number_apart (set_size g s) (perm_in p s) (λ x. owns o s x r) (λ x. imports_execute g o s x r) (λ x. imports_nonexecute g o s x r) (get_or m.sets.items s some).original (perms.numbers s l) set.inverse in
+      number_apart (set_size g s) (perm_in p s) (λ x. owns o s x r) (λ x. imports_execute g o s x r) (λ x. imports_nonexecute g o s x r)
+          (get_or m.sets.items s some).original (perms.numbers s l) set.inverse in
       let bj : j < length (get_or m.sets.items s some).original = subst (λ (z : List ℕ). j < length z) at lj in
       let bk : k < length (get_or m.sets.items s some).original = subst (λ (z : List ℕ). k < length z) at lk in
       let f : get_or (get_or m.sets.items s some).original j 0 ≡ get_or (get_or m.sets.items s some).original k 0 = subst (λ (z : List ℕ). get_or z j 0 ≡ get_or z k 0) at e in
@@ -112,7 +116,9 @@ module _ (g : MeshValue) (o : Owners) (p : Perms) (r : ℕ) (m : RankMesh) (is :
       (cases_lt j k)
 
   -- a core element is marked
-  pub core_marked : (k : ℕ) → k < length (originals_in m.sets.items s) → get_or (core_in m.sets.items s) k false ≡ (owns o s (get_or (originals_in m.sets.items s) k 0) r && is_core g o s (get_or (originals_in m.sets.items s) k 0))
+  pub core_marked : (k : ℕ) → k < length (originals_in m.sets.items s)
+      → get_or (core_in m.sets.items s) k false ≡
+      (owns o s (get_or (originals_in m.sets.items s) k 0) r && is_core g o s (get_or (originals_in m.sets.items s) k 0))
   core_marked k lk =
       let b : k < length (get_or m.sets.items s some).original = subst (λ (z : List ℕ). k < length z) at lk in
       let x : ℕ = get_or (originals_in m.sets.items s) k 0 in

@@ -28,8 +28,10 @@ module _ (g : MeshValue) (o : Owners) (p : Perms) (perms : ArePerms g p) (s : �
       let at : originals_in m.sets.items s ≡ (get_or m.sets.items s d).original = originals_at m.sets.items s d here in
       let inv = (is.sets s d l).inverse in
       subst (λ (z : List ℕ). Contains z x ↔ ((x < set_size g s) × (has_copy g o s x r ≡ true))) (sym at) (
-        number_is_copy (set_size g s) (perm_in p s) (λ x. owns o s x r) (λ x. imports_execute g o s x r) (λ x. imports_nonexecute g o s x r) (get_or m.sets.items s d).original (perms.numbers s l) inv x,
-        λ h. number_contains (set_size g s) (perm_in p s) (λ x. owns o s x r) (λ x. imports_execute g o s x r) (λ x. imports_nonexecute g o s x r) (get_or m.sets.items s d).original (perms.numbers s l) inv x h.0 h.1,
+        number_is_copy (set_size g s) (perm_in p s) (λ x. owns o s x r) (λ x. imports_execute g o s x r) (λ x. imports_nonexecute g o s x r)
+            (get_or m.sets.items s d).original (perms.numbers s l) inv x,
+        λ h. number_contains (set_size g s) (perm_in p s) (λ x. owns o s x r) (λ x. imports_execute g o s x r)
+            (λ x. imports_nonexecute g o s x r) (get_or m.sets.items s d).original (perms.numbers s l) inv x h.0 h.1,
       )
 
   held_by : (r : ℕ) (m : RankMesh) → IsRankMesh g o p r m → AreClosed g m.sets.items → IsHeld g o s r m.sets.items

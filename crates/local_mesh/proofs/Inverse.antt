@@ -62,7 +62,9 @@ module _ (n : ℕ) (order : ℕ → ℕ) (p q r : ℕ → Bool) where
   unfolding all
   length_all = length-append (ordered n order p ++ ordered n order q) (ordered n order r)
       ∙ (ap (λ z. z + length (ordered n order r)) (length-append (ordered n order p) (ordered n order q))
-      ∙ ap (λ z. z) (let a = length-ordered n order p in let b = length-ordered n order q in let c = length-ordered n order r in let e : length (ordered n order p) + length (ordered n order q) + length (ordered n order r) ≡ earlier order p n + earlier order q n + earlier order r n = omega arith in e))
+      ∙ ap (λ z. z) (let a = length-ordered n order p in let b = length-ordered n order q in let c = length-ordered n order r in
+          let e : length (ordered n order p) + length (ordered n order q) + length (ordered n order r) ≡ earlier order p n + earlier order q
+          n + earlier order r n = omega arith in e))
 
   in_own : (k : ℕ) → k < earlier order p n → get_or all k 0 ≡ get_or (ordered n order p) k 0
   unfolding all
@@ -138,7 +140,8 @@ module _ (n : ℕ) (order : ℕ → ℕ) (p q r : ℕ → Bool) where
       let s : earlier order p n + i ≡ k = omega arith in
       let a = at_ordered n i order q m2 in
       let no : p (order a.0) ≡ false = false_from_ne_true (p (order a.0)) (λ e. let z : true ≡ false = sym a.2 ∙ apart.own_exec (order a.0) e in cc) in
-      (a.0, a.1, or_right (p (order a.0)) (q (order a.0) || r (order a.0)) (or_left (q (order a.0)) (r (order a.0)) a.2), ap (λ z. get_or all z 0) (sym s) ∙ (in_exec i m2 ∙ a.3), number_exec a.0 no a.2 ∙ (ap (λ z. earlier order p n + z) a.4 ∙ s)))
+      (a.0, a.1, or_right (p (order a.0)) (q (order a.0) || r (order a.0)) (or_left (q (order a.0)) (r (order a.0)) a.2),
+          ap (λ z. get_or all z 0) (sym s) ∙ (in_exec i m2 ∙ a.3), number_exec a.0 no a.2 ∙ (ap (λ z. earlier order p n + z) a.4 ∙ s)))
       (λ (m2 : earlier order q n ≤ k - earlier order p n).
       let i : ℕ = k - earlier order p n - earlier order q n in
       let s : earlier order p n + earlier order q n + i ≡ k = omega arith in
@@ -147,11 +150,14 @@ module _ (n : ℕ) (order : ℕ → ℕ) (p q r : ℕ → Bool) where
       let a = at_ordered n i order r li in
       let no : p (order a.0) ≡ false = false_from_ne_true (p (order a.0)) (λ e. let z : true ≡ false = sym a.2 ∙ apart.own_nonexec (order a.0) e in cc) in
       let no2 : q (order a.0) ≡ false = false_from_ne_true (q (order a.0)) (λ e. let z : true ≡ false = sym a.2 ∙ apart.exec_nonexec (order a.0) e in cc) in
-      (a.0, a.1, or_right (p (order a.0)) (q (order a.0) || r (order a.0)) (or_right (q (order a.0)) (r (order a.0)) a.2), ap (λ z. get_or all z 0) (sym s) ∙ (in_nonexec i ∙ a.3), number_nonexec a.0 no no2 ∙ (ap (λ z. earlier order p n + earlier order q n + z) a.4 ∙ s)))
+      (a.0, a.1, or_right (p (order a.0)) (q (order a.0) || r (order a.0)) (or_right (q (order a.0)) (r (order a.0)) a.2),
+          ap (λ z. get_or all z 0) (sym s) ∙ (in_nonexec i ∙ a.3), number_nonexec a.0 no no2
+          ∙ (ap (λ z. earlier order p n + earlier order q n + z) a.4 ∙ s)))
       (cases_lt (k - earlier order p n) (earlier order q n)))
       (cases_lt k (earlier order p n))
 
-pub inverse : (n : ℕ) (order : ℕ → ℕ) (p q r : ℕ → Bool) (original : List ℕ) → AreApart p q r → original ≡ ordered n order p ++ ordered n order q ++ ordered n order r → AreInverse n order p q r original
+pub inverse : (n : ℕ) (order : ℕ → ℕ) (p q r : ℕ → Bool) (original : List ℕ) → AreApart p q r
+    → original ≡ ordered n order p ++ ordered n order q ++ ordered n order r → AreInverse n order p q r original
 unfolding all
 inverse n order p q r original apart e = subst (λ (z : List ℕ). AreInverse n order p q r z) (sym e) (record {
   count = length_all n order p q r;
@@ -161,7 +167,10 @@ inverse n order p q r original apart e = subst (λ (z : List ℕ). AreInverse n 
 })
 
 -- one more row of a table
-pub table_more : (now old : List ℕ) (n dim : ℕ) (t : ℕ → ℕ → ℕ) → length old ≡ n * dim → ((k : ℕ) → k < length old → get_or now k 0 ≡ get_or old k 0) → ((i : ℕ) → i < dim → get_or now (length old + i) 0 ≡ t n i) → ((k i : ℕ) → k < n → i < dim → get_or old (k * dim + i) 0 ≡ t k i) → (k i : ℕ) → k < n + 1 → i < dim → get_or now (k * dim + i) 0 ≡ t k i
+pub table_more : (now old : List ℕ) (n dim : ℕ) (t : ℕ → ℕ → ℕ) → length old ≡ n * dim
+    → ((k : ℕ) → k < length old → get_or now k 0 ≡ get_or old k 0) → ((i : ℕ) → i < dim → get_or now (length old + i) 0 ≡ t n i)
+    → ((k i : ℕ) → k < n → i < dim → get_or old (k * dim + i) 0 ≡ t k i) → (k i : ℕ) → k < n + 1 → i < dim
+    → get_or now (k * dim + i) 0 ≡ t k i
 table_more now old n dim t e before new inv k i lk li = ⊎_elim
     (λ (s : k ≡ n). rw s (ap (λ z. get_or now (z + i) 0) (sym e) ∙ new i li))
     (λ (s : k ≡ n → ⊥).
@@ -187,5 +196,6 @@ pub apart_sum : (n : ℕ) (order : ℕ → ℕ) (p q r : ℕ → Bool) → AreAp
 apart_sum zero order p q r a = omega arith
 apart_sum (suc n) order p q r a =
     let h : earlier order p n + earlier order q n + earlier order r n ≤ n = apart_sum n order p q r a in
-    let s : cond {A = ℕ} (p (order n)) 1 0 + cond {A = ℕ} (q (order n)) 1 0 + cond {A = ℕ} (r (order n)) 1 0 ≤ 1 = one_group (p (order n)) (q (order n)) (r (order n)) (a.own_exec (order n)) (a.own_nonexec (order n)) (a.exec_nonexec (order n)) in
+    let s : cond {A = ℕ} (p (order n)) 1 0 + cond {A = ℕ} (q (order n)) 1 0 + cond {A = ℕ} (r (order n)) 1 0 ≤ 1 =
+        one_group (p (order n)) (q (order n)) (r (order n)) (a.own_exec (order n)) (a.own_nonexec (order n)) (a.exec_nonexec (order n)) in
     omega arith

@@ -9,7 +9,9 @@ use Rattle.local_mesh.specs.Parts.{AreParts, AreSorted}
 use Rattle.local_mesh.specs.LocalMesh.{originals_in, executed_in, AreClosed, AreLocalTargets}
 use Rattle.lemmas.proofs.Lists.{contains_at}
 
-pub lookup_is : (room : ℕ) (original copies read locals scratch : List ℕ) → AreParts room original → AreSorted original copies → read ≡ copies → length locals ≡ length read → ((k : ℕ) → k < length read → get_or locals k 0 ≡ get_or scratch (get_or read k 0) 0) → ((k : ℕ) → k < length original → get_or scratch (get_or original k 0) 0 ≡ k) → IsLookup original copies locals
+pub lookup_is : (room : ℕ) (original copies read locals scratch : List ℕ) → AreParts room original → AreSorted original copies
+    → read ≡ copies → length locals ≡ length read → ((k : ℕ) → k < length read → get_or locals k 0 ≡ get_or scratch (get_or read k 0) 0)
+    → ((k : ℕ) → k < length original → get_or scratch (get_or original k 0) 0 ≡ k) → IsLookup original copies locals
 lookup_is room original copies read locals scratch parts sorted e ll at num = record {
   same = ll ∙ ap (length {A = ℕ}) e;
   within = λ k l. (let c = sorted.found k l in rw (local_is k l) c.1);
@@ -27,7 +29,12 @@ lookup_is room original copies read locals scratch parts sorted e ll at num = re
         let c = sorted.found k l in
         read_at k l ∙ (ap (λ z. get_or scratch z 0) (sym (contains_at original (get_or copies k 0) c)) ∙ num c.0 c.1)
 
-pub targets_are : (g : MeshValue) (m : ℕ) (sets : List LocalSet) (here there elements scratch table : List ℕ) (n : ℕ) → AreClosed g sets → m < map_count g → IsMapAt g m → there ≡ originals_in sets (map_to g m) → here ≡ originals_in sets (map_from g m) → n ≡ executed_in sets (map_from g m) → elements ≡ take n here → ((k : ℕ) → k < length there → get_or scratch (get_or there k 0) 0 ≡ k) → length table ≡ length elements * map_dim g m → ((k i : ℕ) → k < length elements → i < map_dim g m → get_or table (k * map_dim g m + i) 0 ≡ get_or scratch (target g m (get_or elements k 0) i) 0) → AreLocalTargets g m sets table
+pub targets_are : (g : MeshValue) (m : ℕ) (sets : List LocalSet) (here there elements scratch table : List ℕ) (n : ℕ) → AreClosed g sets
+    → m < map_count g → IsMapAt g m → there ≡ originals_in sets (map_to g m) → here ≡ originals_in sets (map_from g m)
+    → n ≡ executed_in sets (map_from g m) → elements ≡ take n here → ((k : ℕ) → k < length there → get_or scratch (get_or there k 0) 0 ≡ k)
+    → length table ≡ length elements * map_dim g m →
+    ((k i : ℕ) → k < length elements → i < map_dim g m → get_or table (k * map_dim g m + i) 0 ≡ get_or scratch
+    (target g m (get_or elements k 0) i) 0) → AreLocalTargets g m sets table
 targets_are g m sets here there elements scratch table n closed lm at et eh en ee num lt values = record {
   count = lt ∙ ap (λ z. z * map_dim g m) (len ∙ en);
   within = λ k i lk li. (let c = found k i lk li in rw (entry k i lk li) c.1);

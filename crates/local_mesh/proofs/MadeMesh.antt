@@ -8,7 +8,10 @@ use Rattle.local_mesh.specs.declared.types.LocalSet.{LocalSet}
 use Rattle.local_mesh.specs.declared.types.RankMesh.{RankMesh}
 use Rattle.local_mesh.specs.LocalMesh.{IsLocalSet, IsRankMesh, AreLocalTargets, AreBases}
 
-pub made_is : (g : MeshValue) (o : Owners) (p : Perms) (r : ℕ) (sets : List LocalSet) (m : RankMesh) → length sets ≡ set_count g → ((s : ℕ) (d : LocalSet) → s < set_count g → IsLocalSet g o p s r (get_or sets s d)) → m.sets.items ≡ sets → length m.maps.items ≡ map_count g → ((k : ℕ) → k < map_count g → AreLocalTargets g k sets (row m.maps.items k)) → AreBases g sets m.bases.items m.cells → IsRankMesh g o p r m
+pub made_is : (g : MeshValue) (o : Owners) (p : Perms) (r : ℕ) (sets : List LocalSet) (m : RankMesh) → length sets ≡ set_count g
+    → ((s : ℕ) (d : LocalSet) → s < set_count g → IsLocalSet g o p s r (get_or sets s d)) → m.sets.items ≡ sets
+    → length m.maps.items ≡ map_count g → ((k : ℕ) → k < map_count g → AreLocalTargets g k sets (row m.maps.items k))
+    → AreBases g sets m.bases.items m.cells → IsRankMesh g o p r m
 made_is g o p r sets m n is e count maps bases = record {
   sets_count = ap (length {A = LocalSet}) e ∙ n;
   sets = subst (λ (z : List LocalSet). (s : ℕ) (d : LocalSet) → s < set_count g → IsLocalSet g o p s r (get_or z s d)) (sym e) is;

@@ -63,7 +63,8 @@ module _ (g : MeshValue) (o : Owners) (p : Perms) (r : ℕ) where
       ∙ sym (get_or-map local_set_value b.sets.items s db none lb)))
 
 -- what is read of sets, from what they hold
-same_read : {X : Type 0} (f : LocalSetValue → X) (a b : List LocalSet) → map local_set_value a ≡ map local_set_value b → map (λ (l : LocalSet). f (local_set_value l)) a ≡ map (λ (l : LocalSet). f (local_set_value l)) b
+same_read : {X : Type 0} (f : LocalSetValue → X) (a b : List LocalSet) → map local_set_value a ≡ map local_set_value b
+    → map (λ (l : LocalSet). f (local_set_value l)) a ≡ map (λ (l : LocalSet). f (local_set_value l)) b
 same_read f a b e = sym (map-map f local_set_value a) ∙ (ap (map f) e ∙ map-map f local_set_value b)
 
 same_originals : (a b : List LocalSet) → map local_set_value a ≡ map local_set_value b → (s : ℕ) → originals_in a s ≡ originals_in b s
@@ -80,7 +81,8 @@ same_before g a b e (suc d) = rw (same_before g a b e d, e (dat_set g d)) refl
 
 module _ (g : MeshValue) (o : Owners) (p : Perms) (range : IsInRange g) (perms : ArePerms g p) where
   -- one table of local targets
-  one_table : (r m : ℕ) (a b : RankMesh) → IsRankMesh g o p r a → IsRankMesh g o p r b → map local_set_value a.sets.items ≡ map local_set_value b.sets.items → m < map_count g → row a.maps.items m ≡ row b.maps.items m
+  one_table : (r m : ℕ) (a b : RankMesh) → IsRankMesh g o p r a → IsRankMesh g o p r b
+      → map local_set_value a.sets.items ≡ map local_set_value b.sets.items → m < map_count g → row a.maps.items m ≡ row b.maps.items m
   one_table r m a b h k e l =
       let ta : AreLocalTargets g m a.sets.items (row a.maps.items m) = h.maps m l in
       let tb : AreLocalTargets g m b.sets.items (row b.maps.items m) = k.maps m l in

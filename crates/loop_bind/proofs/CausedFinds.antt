@@ -145,7 +145,9 @@ module _ (places : List Pos) where
   value_caused k t first (Ok (pos n)) = both_caused _ _ (over_caused SizeValue max_size n t counted.SetSize) (cells_caused t (k.filled + n))
 
   size_caused : (k : Declared) (t : ℕ) (e : ExprTree) → AllCaused (size_found places k t e)
-  size_caused k t e = chosen_caused (is_static (resolved places k.names e)) _ _ (value_caused k t (first_token e) (value [] [] (resolved places k.names e))) (if_caused true (first_token e) refusal.ControlNotStatic (λ p. tt))
+  size_caused k t e = chosen_caused (is_static (resolved places k.names e)) _ _
+      (value_caused k t (first_token e) (value [] [] (resolved places k.names e)))
+      (if_caused true (first_token e) refusal.ControlNotStatic (λ p. tt))
 
   pub set_decl_caused : (k : Declared) (nested : Bool) (t : ℕ) (e : ExprTree) → AllCaused (set_decl_found places k nested t e)
   set_decl_caused k nested t e =

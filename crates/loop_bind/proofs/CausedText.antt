@@ -160,13 +160,15 @@ module _ (places : List Pos) where
           let k = after_globals entries args a.declared in
           caused_then (judged_loop places entries a.declared at f on args) _
           (caused_unless (loop_found places entries k at f on args) _ (loop_caused places entries k at f on args)) (λ k. tt)
-      call_caused a w (tree.Printf at l es) = caused_unless (line_found places consts entries at l (length es) (conversions l.text)) _ (line_caused places consts entries at l (length es) (conversions l.text))
+      call_caused a w (tree.Printf at l es) = caused_unless (line_found places consts entries at l (length es) (conversions l.text)) _
+          (line_caused places consts entries at l (length es) (conversions l.text))
       call_caused a w (tree.PrintDat at x l) = caused_unless _ _ (if_caused places _ x.at refusal.UnknownDat (λ p. tt))
 
       bounds_caused : (a : Walked) (f : HostForHeaderTree) → Caused (judged_bounds places consts entries a f)
       bounds_caused a f =
           caused_then (judged_static places a.declared.names f.from) _ (static_caused a.declared.names f.from)
-          (λ from. caused_then (judged_static places (with_counter places consts entries a f.name).declared.names f.to) _ (static_caused (with_counter places consts entries a f.name).declared.names f.to) (λ to. tt))
+          (λ from. caused_then (judged_static places (with_counter places consts entries a f.name).declared.names f.to) _
+              (static_caused (with_counter places consts entries a f.name).declared.names f.to) (λ to. tt))
 
       mutual
         host_caused : (a : Walked) (w : Spot) (h : HostTree) → Caused (judged_host places consts entries a w h)

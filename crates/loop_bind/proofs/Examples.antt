@@ -102,10 +102,14 @@ vars_of r = r >>= λ w. trace w.declared.mesh (happens w) >>= λ u. Ok (with_tol
 -- ---- int x = 5; .. x = x + 1; op_printf("%d", x);
 
 abbrev assigned : Judged Walked
-assigned = read [] [] (file_declares false (tree.Init (named (codes "x") 0) (n_ 5) ∷ []) ∷ []) (tree.HostAssign (record { place = tree.Scalar (named (codes "x") 11); op = assign.Set; at = 12; value = tree.Binary binary.Add 14 (x_ (codes "x")) (n_ 1) }) ∷ prints (x_ (codes "x") ∷ []) ∷ [])
+assigned = read [] [] (file_declares false (tree.Init (named (codes "x") 0) (n_ 5) ∷ []) ∷ [])
+    (tree.HostAssign (record { place = tree.Scalar (named (codes "x") 11); op = assign.Set; at = 12; value =
+    tree.Binary binary.Add 14 (x_ (codes "x")) (n_ 1) }) ∷ prints (x_ (codes "x") ∷ []) ∷ [])
 
 -- a variable of the file stays a variable
-file_variable_is_read : trace_of assigned ≡ Ok (Host (Assign 0 None assign.Set (column 12) (Binary binary.Add (Scalar 0) (Number (pos 1)) (column 14)) (column 11)) ∷ Host (Line (codes "%d") (Scalar 0 ∷ [])) ∷ Host Exit ∷ [])
+file_variable_is_read : trace_of assigned ≡ Ok
+    (Host (Assign 0 None assign.Set (column 12) (Binary binary.Add (Scalar 0) (Number (pos 1)) (column 14)) (column 11))
+    ∷ Host (Line (codes "%d") (Scalar 0 ∷ [])) ∷ Host Exit ∷ [])
 file_variable_is_read = refl
 
 file_variable_starts : vars_of assigned ≡ Ok ((record { name = codes "x"; start = pos 5 ∷ []; constant = None; is_const = false }) ∷ [])
@@ -125,7 +129,11 @@ constant_is_a_number = refl
 -- ---- { const int c = 7; op_par_loop(k, "..", s, op_arg_gbl(&c, 1, "int", OP_READ)); }
 
 abbrev block_const : Judged Walked
-block_const = read [] [] (kernel (codes "k") ∷ []) (set (codes "s") 2 ∷ tree.HostBlock 0 (all_of (declares true (tree.Init (named (codes "c") 0) (n_ 7) ∷ []) ∷ tree.HostCall (tree.ParLoop 9 (named (codes "k") 0) int_text (named (codes "s") 0) (arg.Global 0 (record { ampersand = Some 0; name = named (codes "c") 0 }) (numeral 1 0) int_text word.Read 0 ∷ [])) ∷ [])) ∷ [])
+block_const = read [] [] (kernel (codes "k") ∷ [])
+    (set (codes "s") 2 ∷ tree.HostBlock 0
+    (all_of (declares true (tree.Init (named (codes "c") 0) (n_ 7) ∷ [])
+    ∷ tree.HostCall (tree.ParLoop 9 (named (codes "k") 0) int_text (named (codes "s") 0)
+    (arg.Global 0 (record { ampersand = Some 0; name = named (codes "c") 0 }) (numeral 1 0) int_text word.Read 0 ∷ [])) ∷ [])) ∷ [])
 
 -- the value of a `const` name of a block is told when `main` is unrolled
 block_const_starts : vars_of block_const ≡ Ok ((record { name = codes "c"; start = pos 7 ∷ []; constant = None; is_const = true }) ∷ [])
@@ -137,7 +145,13 @@ block_const_is_read = refl
 -- ---- -0 by a map
 
 abbrev minus_zero : Judged Walked
-minus_zero = read [] ((codes "a", Many (pos 0 ∷ pos 1 ∷ [])) ∷ []) (kernel (codes "k") ∷ tree.ExternArray (named (codes "a") 0) ∷ []) (set (codes "s") 2 ∷ tree.HostCall (tree.DeclMap 0 (named (codes "m") 0) (named (codes "s") 0) (named (codes "s") 0) (numeral 1 0) (named (codes "a") 0) int_text) ∷ tree.HostCall (tree.DeclDat 0 (named (codes "d") 0) (named (codes "s") 0) (numeral 1 0) int_text (named (codes "a") 0) int_text) ∷ tree.HostCall (tree.ParLoop 9 (named (codes "k") 0) int_text (named (codes "s") 0) (arg.Dat 0 (named (codes "d") 0) (record { is_negative = true; at = 17; value = pos 0 }) (via.Map (named (codes "m") 0)) (numeral 1 0) int_text word.Read 0 ∷ [])) ∷ [])
+minus_zero = read [] ((codes "a", Many (pos 0 ∷ pos 1 ∷ [])) ∷ []) (kernel (codes "k") ∷ tree.ExternArray (named (codes "a") 0) ∷ [])
+    (set (codes "s") 2 ∷ tree.HostCall
+    (tree.DeclMap 0 (named (codes "m") 0) (named (codes "s") 0) (named (codes "s") 0) (numeral 1 0) (named (codes "a") 0) int_text)
+    ∷ tree.HostCall (tree.DeclDat 0 (named (codes "d") 0) (named (codes "s") 0) (numeral 1 0) int_text (named (codes "a") 0) int_text)
+    ∷ tree.HostCall (tree.ParLoop 9 (named (codes "k") 0) int_text (named (codes "s") 0)
+    (arg.Dat 0 (named (codes "d") 0) (record { is_negative = true; at = 17; value = pos 0 }) (via.Map (named (codes "m") 0)) (numeral 1 0)
+    int_text word.Read 0 ∷ [])) ∷ [])
 
 minus_zero_is_out_of_range : minus_zero ≡ Err (refusal.IndexRange (column 17))
 unfolding size_in map_from map_to map_dim dat_set dat_dim
@@ -156,7 +170,9 @@ unfolding turns
 no_turn = refl
 
 -- the inner bound is the outer counter
-nested_turns : trace_of (read [] [] [] (turn (codes "i") (n_ 1) (n_ 3) (turn (codes "j") (n_ 0) (x_ (codes "i")) (prints (x_ (codes "j") ∷ []))) ∷ [])) ≡ Ok (line_of 0 ∷ line_of 0 ∷ line_of 1 ∷ Host Exit ∷ [])
+nested_turns : trace_of (read [] [] []
+    (turn (codes "i") (n_ 1) (n_ 3) (turn (codes "j") (n_ 0) (x_ (codes "i")) (prints (x_ (codes "j") ∷ []))) ∷ [])) ≡ Ok
+    (line_of 0 ∷ line_of 0 ∷ line_of 1 ∷ Host Exit ∷ [])
 unfolding turns
 nested_turns = refl
 
@@ -165,12 +181,19 @@ else_is_taken : trace_of (read [] [] [] (tree.HostIfElse 0 (n_ 0) (prints (n_ 1 
 else_is_taken = refl
 
 -- a fault in a branch that is not taken is none
-fault_is_not_reached : trace_of (read [] [] [] (tree.HostIf 0 (n_ 0) (tree.HostBlock 0 (all_of (declares true (tree.Init (named (codes "c") 0) (tree.Binary binary.Div 5 (n_ 1) (n_ 0)) ∷ []) ∷ []))) ∷ [])) ≡ Ok (Host Exit ∷ [])
+fault_is_not_reached : trace_of
+    (read [] [] [] (tree.HostIf 0 (n_ 0)
+    (tree.HostBlock 0 (all_of (declares true (tree.Init (named (codes "c") 0) (tree.Binary binary.Div 5 (n_ 1) (n_ 0)) ∷ []) ∷ []))) ∷ []))
+    ≡ Ok (Host Exit ∷ [])
 fault_is_not_reached = refl
 
-fault_is_reached : trace_of (read [] [] [] (tree.HostIf 0 (n_ 1) (tree.HostBlock 0 (all_of (declares true (tree.Init (named (codes "c") 0) (tree.Binary binary.Div 5 (tree.Number (numeral 1 4)) (n_ 0)) ∷ []) ∷ []))) ∷ [])) ≡ Err (refusal.ControlNotStatic (column 4))
+fault_is_reached : trace_of (read [] [] []
+    (tree.HostIf 0 (n_ 1) (tree.HostBlock 0
+    (all_of (declares true (tree.Init (named (codes "c") 0) (tree.Binary binary.Div 5 (tree.Number (numeral 1 4)) (n_ 0)) ∷ []) ∷ [])))
+    ∷ [])) ≡ Err (refusal.ControlNotStatic (column 4))
 fault_is_reached = refl
 
 -- a bound that isn't known before the run
-not_static : trace_of (read [] [] (file_declares false (tree.Plain (named (codes "x") 0) ∷ []) ∷ []) (turn (codes "i") (n_ 0) (tree.Name (named (codes "x") 8)) (tree.HostEmpty 0) ∷ [])) ≡ Err (refusal.ControlNotStatic (column 8))
+not_static : trace_of (read [] [] (file_declares false (tree.Plain (named (codes "x") 0) ∷ []) ∷ [])
+    (turn (codes "i") (n_ 0) (tree.Name (named (codes "x") 8)) (tree.HostEmpty 0) ∷ [])) ≡ Err (refusal.ControlNotStatic (column 8))
 not_static = refl

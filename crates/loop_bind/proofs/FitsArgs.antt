@@ -39,7 +39,8 @@ dat_dim_small g d h l =
 
 -- how a dat is reached, in a loop over a set that is known
 module _ (g : MeshValue) (ks : List RKernel) (ss : List SiteValue) (vs : List VarValue) (is : List ItemValue) where
-  pub direct_fits : (i : ArgIndex) (set d : Option ℕ) (p : ℕ) → is_none set ≡ false → is_none d ≡ false → is_wrong_set g set d (via.Identity p) None ≡ false → ViaFits (program g ks ss vs is) (or_zero set) (or_zero d) None
+  pub direct_fits : (i : ArgIndex) (set d : Option ℕ) (p : ℕ) → is_none set ≡ false → is_none d ≡ false
+      → is_wrong_set g set d (via.Identity p) None ≡ false → ViaFits (program g ks ss vs is) (or_zero set) (or_zero d) None
   direct_fits i None d p a b e = never a
   direct_fits i (Some s) None p a b e = never b
   direct_fits i (Some s) (Some d) p a b e = equal_from_not (dat_set g d) s e
@@ -87,7 +88,9 @@ module _ (ks : List RKernel) (es : List Named) (k : Declared) (h : Lawful ks es 
     kept = λ q. never q;
   }
 
-  pub by_fits : (a b : Option Meaning) → IfSome a IsOwn → named_in k.names.file x ≡ b → IfSome (or_else a b) (MeaningFits ks k.mesh k.vars k.cells) → Is x k.externs (or_else a b) → IfSome (by es x k.vars k.externs (or_else a b)) (GlobalFits k.vars)
+  pub by_fits : (a b : Option Meaning) → IfSome a IsOwn → named_in k.names.file x ≡ b
+      → IfSome (or_else a b) (MeaningFits ks k.mesh k.vars k.cells) → Is x k.externs (or_else a b)
+      → IfSome (by es x k.vars k.externs (or_else a b)) (GlobalFits k.vars)
   by_fits (Some (Extern z)) b o e m i = absurd o
   by_fits (Some ExternArray) b o e m i = absurd o
   by_fits (Some (Kernel number params)) b o e m i = tt
@@ -100,7 +103,8 @@ module _ (ks : List RKernel) (es : List Named) (k : Declared) (h : Lawful ks es 
   by_fits (Some (Turning t)) b o e m i = tt
   by_fits None None o e m i = tt
   by_fits None (Some (Extern z)) o e m i = extern_fits (lookup (bytes_eq x) k.externs) 1 false (Some (Extern z)) e (λ c v. v) (found_entry (ExternFits es k.names.file k.vars) x k.externs h.externs) i
-  by_fits None (Some ExternArray) o e m i = extern_fits (lookup (bytes_eq x) k.externs) (length (values_named es x)) true (Some ExternArray) e (λ c v. v) (found_entry (ExternFits es k.names.file k.vars) x k.externs h.externs) i
+  by_fits None (Some ExternArray) o e m i = extern_fits (lookup (bytes_eq x) k.externs) (length (values_named es x)) true (Some ExternArray)
+      e (λ c v. v) (found_entry (ExternFits es k.names.file k.vars) x k.externs h.externs) i
   by_fits None (Some (Kernel number params)) o e m i = tt
   by_fits None (Some (Set s)) o e m i = tt
   by_fits None (Some (Map n)) o e m i = tt

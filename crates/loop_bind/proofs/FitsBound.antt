@@ -75,7 +75,8 @@ module _ (p : ProgramTree) (r : Resolved) (es : List Named) where
   ks = r.kernels.items
 
   pub text_walks : TopsTake ks 0 p.tops → All TopIsRead p.tops → HostsAreRead p.main.body → HaveNumbers es → MainAssignsVariables p r es → Gives (Walks ks es) (text p r es)
-  text_walks takes tops body numbers assigns = go (judged_tops p.places r.consts.items es nothing_declared p.tops) (tops_are ks es p.places r.consts.items nothing_declared p.tops numbers (nothing_lawful ks es) takes tops) assigns
+  text_walks takes tops body numbers assigns = go (judged_tops p.places r.consts.items es nothing_declared p.tops)
+      (tops_are ks es p.places r.consts.items nothing_declared p.tops numbers (nothing_lawful ks es) takes tops) assigns
     where
       moved : (k : Declared) (j : Judged Walked) → Gives (WalksOn ks es k) j → Gives (Walks ks es) j
       moved k (Ok b) w = w.walks

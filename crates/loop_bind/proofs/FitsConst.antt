@@ -37,7 +37,8 @@ constant_start places (suc v) c (x ∷ xs) (suc w) = constant_start places v c x
 constant_cells_in : (places : List Pos) → (v : ℕ) (c : Option ℕ) (vs : List VarValue) → cells_in (with_constant places v c vs) ≡ cells_in vs
 constant_cells_in places v c [] = refl
 constant_cells_in places zero c (x ∷ xs) = refl
-constant_cells_in places (suc v) c (x ∷ xs) = sum_by-cons (λ (y : VarValue). length y.start) x (with_constant places v c xs) ∙ ap (λ n. length x.start + n) (constant_cells_in places v c xs) ∙ sym (sum_by-cons (λ (y : VarValue). length y.start) x xs)
+constant_cells_in places (suc v) c (x ∷ xs) = sum_by-cons (λ (y : VarValue). length y.start) x (with_constant places v c xs)
+    ∙ ap (λ n. length x.start + n) (constant_cells_in places v c xs) ∙ sym (sum_by-cons (λ (y : VarValue). length y.start) x xs)
 
 pub constant_grow : (places : List Pos) → (v : ℕ) (c : Option ℕ) (vs : List VarValue) → VarsGrow vs (with_constant places v c vs)
 constant_grow places v c vs = record { longer = omega (arith, constant_length places v c vs); same = λ w l. constant_start places v c vs w }
@@ -64,11 +65,13 @@ module _ (ks : List RKernel) (es : List Named) where
         file = names_more ks k l grows k.names.file h.file;
         own = names_more ks k l grows k.names.own h.own;
         mine = h.mine;
-        externs = All-weaker (ExternFits es k.names.file k.vars) (ExternFits es k.names.file (with_constant places v c k.vars)) (extern_more es k.names.file k.vars (with_constant places v c k.vars) (constant_grow places v c k.vars)) k.externs h.externs;
+        externs = All-weaker (ExternFits es k.names.file k.vars) (ExternFits es k.names.file (with_constant places v c k.vars))
+            (extern_more es k.names.file k.vars (with_constant places v c k.vars) (constant_grow places v c k.vars)) k.externs h.externs;
         sites = subst (All (SiteFits (so_far ks l))) (sym e) (All-nil (SiteFits (so_far ks l)));
       }
 
-  pub constant_is_lawful : (places : List Pos) (consts : List ConstDecl) (k : Declared) (nested : Bool) (t : ℕ) (n : NumberLiteral) (l : TextLiteral) (g : GlobalName) → Lawful ks es k → Gives (Goes ks es k) (judged_constant places consts k nested t n l g)
+  pub constant_is_lawful : (places : List Pos) (consts : List ConstDecl) (k : Declared) (nested : Bool) (t : ℕ) (n : NumberLiteral)
+      (l : TextLiteral) (g : GlobalName) → Lawful ks es k → Gives (Goes ks es k) (judged_constant places consts k nested t n l g)
   constant_is_lawful places consts k nested t n l g h =
       gives_unless (Goes ks es k) (constant_decl_found places k nested t n l g) (after_constant places consts k g.name.name (file_cells places (means k.names g.name.name)))
       (λ none.

@@ -52,7 +52,8 @@ module _ (all : List ConstDecl) (done : List (List ℕ)) where
   tagged_match (f ∷ fs) [] cs t a h = absurd t
   tagged_match (f ∷ fs) (v ∷ vs) cs t a h = pick (λ ds b i. tagged_match fs vs ds t.1 b i) (is_constant done f) refl cs a h
     where
-      pick : ((ds : List ConstDecl) → AreConstants done fs ds → All IsFound ds → Match vs ds) → (b : Bool) → is_constant done f ≡ b → (cs : List ConstDecl) → Begins b f cs (AreConstants done fs) → All IsFound cs → Ahead v.constant (length v.start) cs (Match vs)
+      pick : ((ds : List ConstDecl) → AreConstants done fs ds → All IsFound ds → Match vs ds) → (b : Bool) → is_constant done f ≡ b
+          → (cs : List ConstDecl) → Begins b f cs (AreConstants done fs) → All IsFound cs → Ahead v.constant (length v.start) cs (Match vs)
       pick rest false e cs a h = subst (λ o. Ahead o (length v.start) cs (Match vs)) (sym (t.0.0 ∙ ap (λ b. cell_if b (first_cell all f.name)) e)) (rest cs a h)
       pick rest true e [] a h = absurd a
       pick rest true e (c ∷ cs) a h =
@@ -79,7 +80,8 @@ match_sum [] [] h = refl
 match_sum [] (c ∷ cs) h = absurd h
 match_sum (v ∷ vs) cs h = sum_by-cons constant_cells v vs ∙ pick (λ ds m. match_sum vs ds m) v.constant cs h
   where
-    pick : ((ds : List ConstDecl) → Match vs ds → sum_by constant_cells vs ≡ cells_of ds) → (o : Option ℕ) (cs : List ConstDecl) → Ahead o (length v.start) cs (Match vs) → cells_from o (length v.start) + sum_by constant_cells vs ≡ cells_of cs
+    pick : ((ds : List ConstDecl) → Match vs ds → sum_by constant_cells vs ≡ cells_of ds) → (o : Option ℕ) (cs : List ConstDecl)
+        → Ahead o (length v.start) cs (Match vs) → cells_from o (length v.start) + sum_by constant_cells vs ≡ cells_of cs
     pick rest None cs h = omega (arith, rest cs h)
     pick rest (Some f) [] h = absurd h
     pick rest (Some f) (c ∷ cs) h = omega (arith, h.1, rest cs h.2)
@@ -104,7 +106,9 @@ lies n [] cs f h v first l e = absurd (omega (arith, l))
 lies n (x ∷ vs) cs f h v first l e = pick (λ k ds g m w lt q. lies k vs ds g m w first lt q) v l x.constant refl cs f h e
   where
     pick : ((k : ℕ) (ds : List ConstDecl) → FollowOn k ds → Match vs ds → (w : ℕ) → w < length vs → (at vs w).constant ≡ Some first → Lies k ds first (length (at vs w).start))
-        → (v : ℕ) → v < length (x ∷ vs) → (o : Option ℕ) → x.constant ≡ o → (cs : List ConstDecl) → FollowOn n cs → Ahead o (length x.start) cs (Match vs) → (at (x ∷ vs) v).constant ≡ Some first → Lies n cs first (length (at (x ∷ vs) v).start)
+        → (v : ℕ) → v < length (x ∷ vs) → (o : Option ℕ) → x.constant ≡ o → (cs : List ConstDecl) → FollowOn n cs
+            → Ahead o (length x.start) cs (Match vs) → (at (x ∷ vs) v).constant ≡ Some first
+            → Lies n cs first (length (at (x ∷ vs) v).start)
     pick rest zero l None q cs f h e = none_some first (sym q ∙ e)
     pick rest zero l (Some g) q [] f h e = absurd h
     pick rest zero l (Some g) q (c ∷ cs) f h e =
@@ -116,7 +120,8 @@ lies n (x ∷ vs) cs f h v first l e = pick (λ k ds g m w lt q. lies k vs ds g 
         let i = rest (n + c.count) cs f.1 h.2 v (omega (arith, l)) e in
         record { above = omega (arith, i.above); below = omega (arith, i.below) }
 
-apart : (n : ℕ) (vs : List VarValue) (cs : List ConstDecl) → FollowOn n cs → Match vs cs → (v w first other : ℕ) → v < length vs → w < length vs → v ≢ w → (at vs v).constant ≡ Some first → (at vs w).constant ≡ Some other
+apart : (n : ℕ) (vs : List VarValue) (cs : List ConstDecl) → FollowOn n cs → Match vs cs → (v w first other : ℕ) → v < length vs
+    → w < length vs → v ≢ w → (at vs v).constant ≡ Some first → (at vs w).constant ≡ Some other
     → (first + length (at vs v).start ≤ other) ⊎ (other + length (at vs w).start ≤ first)
 apart n [] cs f h v w first other l k d p q = absurd (omega (arith, l))
 apart n (x ∷ vs) cs f h v w first other l k d p q = pick (λ j ds g m a b la lb dd r s. apart j vs ds g m a b first other la lb dd r s) v w l k d x.constant refl cs f h p q
@@ -157,7 +162,8 @@ of_one (x ∷ vs) cs from count h a = pick (λ ds m b. of_one vs ds from count m
     later : OfVariable vs from count → OfVariable (x ∷ vs) from count
     later o = (suc o.0, omega (arith, o.1), o.2)
 
-    pick : ((ds : List ConstDecl) → Match vs ds → AreOfOne ds from count → OfVariable vs from count) → (o : Option ℕ) → x.constant ≡ o → (cs : List ConstDecl) → Ahead o (length x.start) cs (Match vs) → AreOfOne cs from count → OfVariable (x ∷ vs) from count
+    pick : ((ds : List ConstDecl) → Match vs ds → AreOfOne ds from count → OfVariable vs from count) → (o : Option ℕ) → x.constant ≡ o
+        → (cs : List ConstDecl) → Ahead o (length x.start) cs (Match vs) → AreOfOne cs from count → OfVariable (x ∷ vs) from count
     pick rest None q cs h a = later (rest cs h a)
     pick rest (Some f) q [] h a = absurd a
     pick rest (Some f) q (c ∷ cs) h (inl a) = (zero, omega arith, (f, q, omega (arith, a.0, h.0), omega (arith, a.1, h.0, h.1)))
@@ -212,4 +218,5 @@ module _ (b : BoundValue) (cs : List ConstDecl) (follow : FollowOn 0 cs) (fits :
   pub kernels_fit : (ks : List RKernel) → AreResolved (cells_of cs) ks → All (λ (k : RKernel). UsesConstants (AreOfOne cs) k.body.statement) ks → All (KernelFits b) ks
   kernels_fit [] h u = All-nil (KernelFits b)
   kernels_fit (k ∷ ks) h u =
-      All-cons (KernelFits b) k ks (kernel_fits k h.0 (All-head (λ (k : RKernel). UsesConstants (AreOfOne cs) k.body.statement) k ks u)) (kernels_fit ks h.1 (All-tail (λ (k : RKernel). UsesConstants (AreOfOne cs) k.body.statement) k ks u))
+      All-cons (KernelFits b) k ks (kernel_fits k h.0 (All-head (λ (k : RKernel). UsesConstants (AreOfOne cs) k.body.statement) k ks u))
+          (kernels_fit ks h.1 (All-tail (λ (k : RKernel). UsesConstants (AreOfOne cs) k.body.statement) k ks u))

@@ -81,7 +81,10 @@ apart = (
 )
 
 tops_read : All TopIsRead tops
-tops_read = All-from_recursion TopIsRead tops (All-from_recursion IsRead (x_declr ∷ []) (tt, tt), (All-from_recursion IsRead (five ∷ []) (record { sfits = omega arith }, tt), (All-from_recursion IsRead (a_declr ∷ []) (omega arith, tt), tt)))
+tops_read = All-from_recursion TopIsRead tops
+    (All-from_recursion IsRead (x_declr ∷ []) (tt, tt),
+    (All-from_recursion IsRead (five ∷ []) (record { sfits = omega arith }, tt),
+    (All-from_recursion IsRead (a_declr ∷ []) (omega arith, tt), tt)))
 
 body_read : HostsAreRead body
 body_read = ((tt, record { sfits = omega arith }), (tt, (All-from_recursion HasNumbers (tree.Name (named (codes "c")) ∷ []) (tt, tt), tt)))
@@ -94,7 +97,8 @@ module _ (r : Resolved) (no_kernels : r.kernels.items ≡ []) (consts : r.consts
       kernels = subst (AreResolved (cells_of r.consts.items)) (sym no_kernels) tt;
     };
     takes = tt;
-    uses = subst (All (λ (k : RKernel). UsesConstants (AreOfOne r.consts.items) k.body.statement)) (sym no_kernels) (All-nil (λ (k : RKernel). UsesConstants (AreOfOne r.consts.items) k.body.statement));
+    uses = subst (All (λ (k : RKernel). UsesConstants (AreOfOne r.consts.items) k.body.statement)) (sym no_kernels)
+        (All-nil (λ (k : RKernel). UsesConstants (AreOfOne r.consts.items) k.body.statement));
     constants = subst (AreConstants (named_in program) (file_variables tops)) (sym consts) (refl, refl, (refl, refl, tt));
     found = subst AreFound (sym consts) found;
     apart = apart;

@@ -130,7 +130,9 @@ module _ (ks : List RKernel) (es : List Named) where
         own = m.own;
         mine = m.mine;
         externs = All-push (ExternFits es k.names.file (k.vars ++ extern_var x zs ∷ [])) k.externs (x, length k.vars) m.externs
-            (omega (arith, length_push k.vars (extern_var x zs)), subst (λ n. HasValues es x n (named_in k.names.file x)) (sym (ap (λ (y : VarValue). length y.start) (at_last k.vars (extern_var x zs)))) v);
+            (omega (arith, length_push k.vars (extern_var x zs)),
+                subst (λ n. HasValues es x n (named_in k.names.file x))
+                (sym (ap (λ (y : VarValue). length y.start) (at_last k.vars (extern_var x zs)))) v);
         sites = m.sites;
       }
 
@@ -140,7 +142,8 @@ module _ (ks : List RKernel) (es : List Named) where
       grows : Grows k (added k x zs)
       grows = record { vars = g.vars; cells = g.cells; sites = g.sites; sets = g.sets; maps = g.maps; dats = g.dats }
 
-  extern-adds : (k : Declared) (x : List ℕ) (zs : List ℤ) → Lawful ks es k → HasValues es x (length zs) (named_in k.names.file x) → Adds ks es k (with_extern x zs k) × IsIn x (with_extern x zs k).externs
+  extern-adds : (k : Declared) (x : List ℕ) (zs : List ℤ) → Lawful ks es k → HasValues es x (length zs) (named_in k.names.file x)
+      → Adds ks es k (with_extern x zs k) × IsIn x (with_extern x zs k).externs
   extern-adds k x zs h v = pick (is_some (lookup (bytes_eq x) k.externs)) refl
     where
       pick : (b : Bool) → is_some (lookup (bytes_eq x) k.externs) ≡ b → Adds ks es k (if b then k else added k x zs) × IsIn x (if b then k else added k x zs).externs

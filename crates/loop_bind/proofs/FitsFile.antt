@@ -40,7 +40,9 @@ use Rattle.loop_bind.proofs.FitsReads.{resolved_within}
 
 module _ (ks : List RKernel) (es : List Named) (places : List Pos) (k : Declared) (h : Lawful ks es k) where
   pub static_within : (e : ExprTree) → HasNumbers e → Gives (λ (a : Asked). Within k.cells a.value) (judged_static places k.names e)
-  static_within e f = gives_unless (λ (a : Asked). Within k.cells a.value) (found_if places (not (is_static (resolved places k.names e))) (first_token e) refusal.ControlNotStatic) (asked places k.names e) (λ n. resolved_within ks es places k h e f)
+  static_within e f = gives_unless (λ (a : Asked). Within k.cells a.value)
+      (found_if places (not (is_static (resolved places k.names e))) (first_token e) refusal.ControlNotStatic) (asked places k.names e)
+      (λ n. resolved_within ks es places k h e f)
 
   known_num : (first : ℕ) (v : Value) → IsNumber v → Gives Num (known places first v)
   known_num first (Ok z) f = f
@@ -85,13 +87,18 @@ module _ (ks : List RKernel) (es : List Named) where
 
   module _ (places : List Pos) (consts : List ConstDecl) where
     with-value : (k : Declared) (c : Bool) (x : List ℕ) (z : ℤ) → TopLawful ks es k → Num z → TopLawful ks es (with_file_value places consts k c x z)
-    with-value k false x z h f = top-name (with_var (changing x (z ∷ [])) k) x (Variable (next_cells k true false 1)) (top-var k (changing x (z ∷ [])) h) (next-fits ks es k (changing x (z ∷ [])) true false 1 refl (omega arith))
-    with-value k true x z h f = top-name (with_var (unchanging x z (first_cell consts x)) k) x (Fixed z (next_cells k true false 1)) (top-var k (unchanging x z (first_cell consts x)) h) (f, next-fits ks es k (unchanging x z (first_cell consts x)) true false 1 refl (omega arith))
+    with-value k false x z h f = top-name (with_var (changing x (z ∷ [])) k) x (Variable (next_cells k true false 1))
+        (top-var k (changing x (z ∷ [])) h) (next-fits ks es k (changing x (z ∷ [])) true false 1 refl (omega arith))
+    with-value k true x z h f = top-name (with_var (unchanging x z (first_cell consts x)) k) x (Fixed z (next_cells k true false 1))
+        (top-var k (unchanging x z (first_cell consts x)) h)
+        (f, next-fits ks es k (unchanging x z (first_cell consts x)) true false 1 refl (omega arith))
 
     file_declr : (k : Declared) (c : Bool) (d : DeclrTree) → TopLawful ks es k → IsRead d → Gives (TopLawful ks es) (judged_file_declr places consts k c d)
-    file_declr k c (tree.Plain x) h r = top-name (with_var (changing x.name (pos 0 ∷ [])) k) x.name (Variable (next_cells k true false 1)) (top-var k (changing x.name (pos 0 ∷ [])) h) (next-fits ks es k (changing x.name (pos 0 ∷ [])) true false 1 refl (omega arith))
+    file_declr k c (tree.Plain x) h r = top-name (with_var (changing x.name (pos 0 ∷ [])) k) x.name (Variable (next_cells k true false 1))
+        (top-var k (changing x.name (pos 0 ∷ [])) h) (next-fits ks es k (changing x.name (pos 0 ∷ [])) true false 1 refl (omega arith))
     file_declr k c (tree.Init x e) h r =
-        gives_then Num (TopLawful ks es) (judged_value places k.names e) (λ z. Ok (with_file_value places consts k c x.name z)) (value_is_num ks es places k h.lawful e r) (λ z f. with-value k c x.name z h f)
+        gives_then Num (TopLawful ks es) (judged_value places k.names e) (λ z. Ok (with_file_value places consts k c x.name z))
+            (value_is_num ks es places k h.lawful e r) (λ z f. with-value k c x.name z h f)
     file_declr k c (tree.Array x n) h r =
         let v = changing x.name (replicate (count_of n) (pos 0)) in
         top-name (with_var v k) x.name (Variable (next_cells k true true (count_of n))) (top-var k v h) (next-fits ks es k v true true (count_of n) (length-replicate (count_of n) (pos 0)) r)
@@ -112,7 +119,8 @@ module _ (ks : List RKernel) (es : List Named) where
     array-is k x (Some (Many zs)) h = top-name k x.name ExternArray h tt
     array-is k x None h = tt
 
-    top_is : (k : Declared) (t : TopTree) (ts : List TopTree) → HaveNumbers es → TopLawful ks es k → TopsTake ks k.kernels (t ∷ ts) → TopIsRead t → Gives (TopLawful ks es) (judged_top places consts es k t)
+    top_is : (k : Declared) (t : TopTree) (ts : List TopTree) → HaveNumbers es → TopLawful ks es k → TopsTake ks k.kernels (t ∷ ts)
+        → TopIsRead t → Gives (TopLawful ks es) (judged_top places consts es k t)
     top_is k (tree.Extern x) ts n h i r = extern-is k x (lookup (bytes_eq x.name) es) h (All-lookup HasNumber (bytes_eq x.name) es n)
     top_is k (tree.ExternArray x) ts n h i r = array-is k x (lookup (bytes_eq x.name) es) h
     top_is k (tree.FileDeclaration v) ts n h i r = file_declrs k v.is_const v.declrs h r
@@ -125,7 +133,8 @@ module _ (ks : List RKernel) (es : List Named) where
     declrs-kernels : (n : ℕ) (k : Declared) (c : Bool) (ds : List DeclrTree) → k.kernels ≡ n → Gives (λ (l : Declared). l.kernels ≡ n) (judged_file_declrs places consts k c ds)
     declrs-kernels n k c [] e = e
     declrs-kernels n k c (d ∷ ds) e =
-        gives_then (λ (l : Declared). l.kernels ≡ n) (λ (l : Declared). l.kernels ≡ n) (judged_file_declr places consts k c d) (λ l. judged_file_declrs places consts l c ds) (one d) (λ l f. declrs-kernels n l c ds f)
+        gives_then (λ (l : Declared). l.kernels ≡ n) (λ (l : Declared). l.kernels ≡ n) (judged_file_declr places consts k c d)
+            (λ l. judged_file_declrs places consts l c ds) (one d) (λ l f. declrs-kernels n l c ds f)
       where
         value-kernels : (c : Bool) (x : List ℕ) (z : ℤ) → (with_file_value places consts k c x z).kernels ≡ n
         value-kernels false x z = e
@@ -133,7 +142,8 @@ module _ (ks : List RKernel) (es : List Named) where
 
         one : (d : DeclrTree) → Gives (λ (l : Declared). l.kernels ≡ n) (judged_file_declr places consts k c d)
         one (tree.Plain x) = e
-        one (tree.Init x g) = gives_then (λ z. Unit {0}) (λ (l : Declared). l.kernels ≡ n) (judged_value places k.names g) (λ z. Ok (with_file_value places consts k c x.name z)) (any (judged_value places k.names g)) (λ z u. value-kernels c x.name z)
+        one (tree.Init x g) = gives_then (λ z. Unit {0}) (λ (l : Declared). l.kernels ≡ n) (judged_value places k.names g)
+            (λ z. Ok (with_file_value places consts k c x.name z)) (any (judged_value places k.names g)) (λ z u. value-kernels c x.name z)
           where
             any : (r : Judged ℤ) → Gives (λ z. Unit {0}) r
             any (Ok z) = tt

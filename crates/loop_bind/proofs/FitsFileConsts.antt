@@ -61,11 +61,14 @@ module _ (cs : List ConstDecl) where
   last_name (g ∷ fs) f = last_name fs f
 
   -- a variable and its name
-  next : (fs : List FileVariable) (f : FileVariable) (k : Declared) (v : VarValue) (o : Meaning) → FileConsts fs k → Tag cs [] f v → (HasName cs (fs ++ f ∷ []) (length k.vars) f.name → CellsNamed cs (fs ++ f ∷ []) f.name o) → FileConsts (fs ++ f ∷ []) (with_file_name f.name o (with_var v k))
+  next : (fs : List FileVariable) (f : FileVariable) (k : Declared) (v : VarValue) (o : Meaning) → FileConsts fs k → Tag cs [] f v
+      → (HasName cs (fs ++ f ∷ []) (length k.vars) f.name → CellsNamed cs (fs ++ f ∷ []) f.name o)
+      → FileConsts (fs ++ f ∷ []) (with_file_name f.name o (with_var v k))
   next fs f k v o h t n = record {
     tagged = tagged_next cs [] fs k.vars f v h.tagged h.long t;
     long = length_push k.vars v ∙ ap (λ j. j + 1) h.long ∙ sym (length_push fs f);
-    file = known-fits (EntryNamed cs (fs ++ f ∷ [])) f.name o k.names.file (n here) (All-weaker (EntryNamed cs fs) (EntryNamed cs (fs ++ f ∷ [])) (λ e i. cells_more cs fs (f ∷ []) e.0 e.1 i) k.names.file h.file);
+    file = known-fits (EntryNamed cs (fs ++ f ∷ [])) f.name o k.names.file (n here)
+        (All-weaker (EntryNamed cs fs) (EntryNamed cs (fs ++ f ∷ [])) (λ e i. cells_more cs fs (f ∷ []) e.0 e.1 i) k.names.file h.file);
     own = h.own;
   }
     where
@@ -77,16 +80,20 @@ module _ (cs : List ConstDecl) where
   other fs k x o h i = record { tagged = h.tagged; long = h.long; file = known-fits (EntryNamed cs fs) x o k.names.file i h.file; own = h.own }
 
   module _ (places : List Pos) (es : List Named) where
-    value_is : (fs : List FileVariable) (c : Bool) (x : List ℕ) (z : ℤ) (k : Declared) → FileConsts fs k → FileConsts (fs ++ (record { name = x; is_const = c; count = 1 }) ∷ []) (with_file_value places cs k c x z)
+    value_is : (fs : List FileVariable) (c : Bool) (x : List ℕ) (z : ℤ) (k : Declared) → FileConsts fs k
+        → FileConsts (fs ++ (record { name = x; is_const = c; count = 1 }) ∷ []) (with_file_value places cs k c x z)
     value_is fs false x z k h = next fs (record { name = x; is_const = false; count = 1 }) k (changing x (z ∷ [])) (m.Variable (next_cells k true false 1)) h (refl, refl) (λ i. i)
     value_is fs true x z k h = next fs (record { name = x; is_const = true; count = 1 }) k (unchanging x z (first_cell cs x)) (m.Fixed z (next_cells k true false 1)) h (refl, refl) (λ i. i)
 
     declr_is : (fs : List FileVariable) (c : Bool) (d : DeclrTree) (k : Declared) → FileConsts fs k → Gives (FileConsts (fs ++ declr_variable c d ∷ [])) (judged_file_declr places cs k c d)
     declr_is fs c (tree.Plain x) k h = next fs (declr_variable c (tree.Plain x)) k (changing x.name (pos 0 ∷ [])) (m.Variable (next_cells k true false 1)) h (refl, refl) (λ i. i)
     declr_is fs c (tree.Init x e) k h =
-        gives_then (λ z. Unit {0}) (FileConsts (fs ++ declr_variable c (tree.Init x e) ∷ [])) (judged_value places k.names e) (λ z. Ok (with_file_value places cs k c x.name z)) (gives_any (judged_value places k.names e)) (λ z u. value_is fs c x.name z k h)
+        gives_then (λ z. Unit {0}) (FileConsts (fs ++ declr_variable c (tree.Init x e) ∷ [])) (judged_value places k.names e)
+            (λ z. Ok (with_file_value places cs k c x.name z)) (gives_any (judged_value places k.names e))
+            (λ z u. value_is fs c x.name z k h)
     declr_is fs c (tree.Array x n) k h =
-        next fs (declr_variable c (tree.Array x n)) k (changing x.name (replicate (count_of n) (pos 0))) (m.Variable (next_cells k true true (count_of n))) h (refl, length-replicate (count_of n) (pos 0)) (λ i. i)
+        next fs (declr_variable c (tree.Array x n)) k (changing x.name (replicate (count_of n) (pos 0)))
+            (m.Variable (next_cells k true true (count_of n))) h (refl, length-replicate (count_of n) (pos 0)) (λ i. i)
 
     moved : (fs gs : List FileVariable) (r : Judged Declared) → fs ≡ gs → Gives (FileConsts fs) r → Gives (FileConsts gs) r
     moved fs gs r e h = subst (λ l. Gives (FileConsts l) r) e h
@@ -94,8 +101,11 @@ module _ (cs : List ConstDecl) where
     declrs_are : (fs : List FileVariable) (c : Bool) (ds : List DeclrTree) (k : Declared) → FileConsts fs k → Gives (FileConsts (fs ++ declrs_variables c ds)) (judged_file_declrs places cs k c ds)
     declrs_are fs c [] k h = subst (λ l. FileConsts l k) (sym (append-nil fs)) h
     declrs_are fs c (d ∷ ds) k h =
-        gives_then (FileConsts (fs ++ declr_variable c d ∷ [])) (FileConsts (fs ++ declr_variable c d ∷ declrs_variables c ds)) (judged_file_declr places cs k c d) (λ l. judged_file_declrs places cs l c ds) (declr_is fs c d k h)
-        (λ l i. moved ((fs ++ declr_variable c d ∷ []) ++ declrs_variables c ds) (fs ++ declr_variable c d ∷ declrs_variables c ds) (judged_file_declrs places cs l c ds) (append_assoc fs (declr_variable c d ∷ []) (declrs_variables c ds)) (declrs_are (fs ++ declr_variable c d ∷ []) c ds l i))
+        gives_then (FileConsts (fs ++ declr_variable c d ∷ [])) (FileConsts (fs ++ declr_variable c d ∷ declrs_variables c ds))
+            (judged_file_declr places cs k c d) (λ l. judged_file_declrs places cs l c ds) (declr_is fs c d k h)
+        (λ l i. moved ((fs ++ declr_variable c d ∷ []) ++ declrs_variables c ds) (fs ++ declr_variable c d ∷ declrs_variables c ds)
+            (judged_file_declrs places cs l c ds) (append_assoc fs (declr_variable c d ∷ []) (declrs_variables c ds))
+            (declrs_are (fs ++ declr_variable c d ∷ []) c ds l i))
 
     extern-is : (fs : List FileVariable) (k : Declared) (x : Ident) (e : Option Entry) → FileConsts fs k → Gives (FileConsts (fs ++ [])) (judged_extern places cs es k x e)
     extern-is fs k x (Some (One z)) h = subst (λ l. FileConsts l (with_file_name x.name (m.Extern z) k)) (sym (append-nil fs)) (other fs k x.name (m.Extern z) h tt)
@@ -120,4 +130,6 @@ module _ (cs : List ConstDecl) where
     tops_are_consts fs k [] h = subst (λ l. FileConsts l k) (sym (append-nil fs)) h
     tops_are_consts fs k (t ∷ ts) h =
         gives_then (FileConsts (fs ++ top_variables t)) (FileConsts (fs ++ (top_variables t ++ file_variables ts))) (judged_top places cs es k t) (λ l. judged_tops places cs es l ts) (top_is fs k t h)
-        (λ l i. moved ((fs ++ top_variables t) ++ file_variables ts) (fs ++ (top_variables t ++ file_variables ts)) (judged_tops places cs es l ts) (append_assoc fs (top_variables t) (file_variables ts)) (tops_are_consts (fs ++ top_variables t) l ts i))
+        (λ l i. moved ((fs ++ top_variables t) ++ file_variables ts) (fs ++ (top_variables t ++ file_variables ts))
+            (judged_tops places cs es l ts) (append_assoc fs (top_variables t) (file_variables ts))
+            (tops_are_consts (fs ++ top_variables t) l ts i))

@@ -59,7 +59,9 @@ module _ (places : List Pos) (n : NumberLiteral) (g : GlobalName) where
   none_own (Some q) (Some (m.Turning t)) b h f e = no_cells e
 
 module _ (cs : List ConstDecl) (fs : List FileVariable) (apart : NamesApart fs) (places : List Pos) (es : List Named) (file : Known) where
-  constant_unhidden : (done : List (List ℕ)) (own : Known) (k : Declared) (nest : Bool) (t : ℕ) (n : NumberLiteral) (l : TextLiteral) (g : GlobalName) → MainConsts cs fs apart done k → Scoped file own k → Gives (λ (j : Declared). found own g.name.name ≡ None) (judged_constant places cs k nest t n l g)
+  constant_unhidden : (done : List (List ℕ)) (own : Known) (k : Declared) (nest : Bool) (t : ℕ) (n : NumberLiteral) (l : TextLiteral)
+      (g : GlobalName) → MainConsts cs fs apart done k → Scoped file own k
+      → Gives (λ (j : Declared). found own g.name.name ≡ None) (judged_constant places cs k nest t n l g)
   constant_unhidden done own k nest t n l g h s =
       let x = g.name.name in
       let c = file_cells places (means k.names x) in
@@ -70,7 +72,8 @@ module _ (cs : List ConstDecl) (fs : List FileVariable) (apart : NamesApart fs) 
       (λ none. none_own places n g (found own x) (named_in k.names.own x) (named_in k.names.file x) (same_found x own k.names.own s.own) (All-lookup OfMain (bytes_eq x) k.names.own h.own)
       (right_nil before here (left_nil (before ++ here) last none)))
 
-  call_unhidden : (done : List (List ℕ)) (own : Known) (a : Walked) (w : Spot) (c : OpCallTree) → Have cs fs apart places es done a → At places cs es file own a → Gives (λ (b : Walked). CallNamesNoOwn own c) (judged_call places cs es a w c)
+  call_unhidden : (done : List (List ℕ)) (own : Known) (a : Walked) (w : Spot) (c : OpCallTree) → Have cs fs apart places es done a
+      → At places cs es file own a → Gives (λ (b : Walked). CallNamesNoOwn own c) (judged_call places cs es a w c)
   call_unhidden done own a w (tree.DeclConst at n l g) h s =
       gives_then (λ (k : Declared). found own g.name.name ≡ None) (λ (b : Walked). found own g.name.name ≡ None) (judged_constant places cs a.declared w.is_nested at n l g) (λ k. Ok (behind a k))
       (constant_unhidden done own a.declared w.is_nested at n l g h s) (λ k i. i)
@@ -88,48 +91,65 @@ module _ (cs : List ConstDecl) (fs : List FileVariable) (apart : NamesApart fs) 
   abbrev On : List (List ℕ) → Known → HostTree → Walked → Type 0
   On done own x b = NamesNoOwn own x × At places cs es file (after_host own x) b × Have cs fs apart places es (done ++ constant_names x) b
 
-  host_on : (done : List (List ℕ)) (own : Known) (a : Walked) (w : Spot) (x : HostTree) → Have cs fs apart places es done a → At places cs es file own a → Gives (λ (b : Walked). NamesNoOwn own x) (judged_host places cs es a w x) → Gives (On done own x) (judged_host places cs es a w x)
+  host_on : (done : List (List ℕ)) (own : Known) (a : Walked) (w : Spot) (x : HostTree) → Have cs fs apart places es done a
+      → At places cs es file own a → Gives (λ (b : Walked). NamesNoOwn own x) (judged_host places cs es a w x)
+      → Gives (On done own x) (judged_host places cs es a w x)
   host_on done own a w x h s g =
       all_three (λ (b : Walked). NamesNoOwn own x) (At places cs es file (after_host own x)) (Have cs fs apart places es (done ++ constant_names x)) (judged_host places cs es a w x)
       g (host_scoped places cs es file own a w x s) (host_goes cs fs apart places es done a w x h)
 
   mutual
-    host_unhidden : (done : List (List ℕ)) (own : Known) (a : Walked) (w : Spot) (x : HostTree) → Have cs fs apart places es done a → At places cs es file own a → Gives (λ (b : Walked). NamesNoOwn own x) (judged_host places cs es a w x)
+    host_unhidden : (done : List (List ℕ)) (own : Known) (a : Walked) (w : Spot) (x : HostTree) → Have cs fs apart places es done a
+        → At places cs es file own a → Gives (λ (b : Walked). NamesNoOwn own x) (judged_host places cs es a w x)
     host_unhidden done own a w (tree.HostDeclaration v) h s = gives_any (judged_host places cs es a w (tree.HostDeclaration v))
     host_unhidden done own a w (tree.HostBlock at hs) h s =
-        gives_then (λ (b : Walked). AllNameNoOwn own hs) (λ (b : Walked). AllNameNoOwn own hs) (judged_hosts places cs es (opened places cs es a) (nested w) hs) (λ b. Ok (ended places cs es a (Block b.steps) b))
+        gives_then (λ (b : Walked). AllNameNoOwn own hs) (λ (b : Walked). AllNameNoOwn own hs)
+            (judged_hosts places cs es (opened places cs es a) (nested w) hs) (λ b. Ok (ended places cs es a (Block b.steps) b))
         (hosts_unhidden done own (opened places cs es a) (nested w) hs h s) (λ b i. i)
     host_unhidden done own a w (tree.HostEmpty at) h s = gives_any (judged_host places cs es a w (tree.HostEmpty at))
     host_unhidden done own a w (tree.HostAssign e) h s = gives_any (judged_host places cs es a w (tree.HostAssign e))
     host_unhidden done own a w (tree.HostIf at e x) h s =
-        gives_then (λ (c : Asked). Unit {0}) (λ (b : Walked). NamesNoOwn own x) (judged_static places a.declared.names e) (λ c. judged_host places cs es (opened places cs es a) (nested w) x >>= λ b. Ok (followed_by places cs es a (Choose c (Block b.steps) (Block NoStep)) b)) (gives_any (judged_static places a.declared.names e))
-        (λ c u. gives_then (λ (b : Walked). NamesNoOwn own x) (λ (b : Walked). NamesNoOwn own x) (judged_host places cs es (opened places cs es a) (nested w) x) (λ b. Ok (followed_by places cs es a (Choose c (Block b.steps) (Block NoStep)) b))
+        gives_then (λ (c : Asked). Unit {0}) (λ (b : Walked). NamesNoOwn own x) (judged_static places a.declared.names e)
+            (λ c. judged_host places cs es (opened places cs es a) (nested w) x >>= λ b. Ok
+            (followed_by places cs es a (Choose c (Block b.steps) (Block NoStep)) b)) (gives_any (judged_static places a.declared.names e))
+        (λ c u. gives_then (λ (b : Walked). NamesNoOwn own x) (λ (b : Walked). NamesNoOwn own x)
+            (judged_host places cs es (opened places cs es a) (nested w) x)
+            (λ b. Ok (followed_by places cs es a (Choose c (Block b.steps) (Block NoStep)) b))
         (host_unhidden done own (opened places cs es a) (nested w) x h s) (λ b i. i))
     host_unhidden done own a w (tree.HostIfElse at e x y) h s =
         let o = after_host own x in
         gives_then (λ (c : Asked). Unit {0}) (λ (b : Walked). NamesNoOwn own x × NamesNoOwn o y) (judged_static places a.declared.names e)
-        (λ c. judged_host places cs es (opened places cs es a) (nested w) x >>= λ b. judged_host places cs es (opened places cs es b) (nested w) y >>= λ d. Ok (followed_by places cs es a (Choose c (Block b.steps) (Block d.steps)) d))
+        (λ c. judged_host places cs es (opened places cs es a) (nested w) x >>= λ b. judged_host places cs es (opened places cs es b)
+            (nested w) y >>= λ d. Ok (followed_by places cs es a (Choose c (Block b.steps) (Block d.steps)) d))
         (gives_any (judged_static places a.declared.names e))
         (λ c u. gives_then (On done own x) (λ (b : Walked). NamesNoOwn own x × NamesNoOwn o y) (judged_host places cs es (opened places cs es a) (nested w) x)
         (λ b. judged_host places cs es (opened places cs es b) (nested w) y >>= λ d. Ok (followed_by places cs es a (Choose c (Block b.steps) (Block d.steps)) d))
         (host_on done own (opened places cs es a) (nested w) x h s (host_unhidden done own (opened places cs es a) (nested w) x h s))
         (λ b i. gives_then (λ (d : Walked). NamesNoOwn o y) (λ (d : Walked). NamesNoOwn own x × NamesNoOwn o y) (judged_host places cs es (opened places cs es b) (nested w) y)
-        (λ d. Ok (followed_by places cs es a (Choose c (Block b.steps) (Block d.steps)) d)) (host_unhidden (done ++ constant_names x) o (opened places cs es b) (nested w) y i.2 i.1) (λ d j. (i.0, j))))
+        (λ d. Ok (followed_by places cs es a (Choose c (Block b.steps) (Block d.steps)) d))
+            (host_unhidden (done ++ constant_names x) o (opened places cs es b) (nested w) y i.2 i.1) (λ d j. (i.0, j))))
     host_unhidden done own a w (tree.HostFor f x) h s =
         let o = knows f.name.name false own in
-        gives_then (λ (r : Asked × Asked). Unit {0}) (λ (b : Walked). NamesNoOwn o x) (judged_bounds places cs es a f) (λ r. judged_host places cs es (with_counter places cs es a f.name) turning x >>= λ b. Ok (ended places cs es a (Repeat r.0 r.1 (Block b.steps)) b)) (gives_any (judged_bounds places cs es a f))
-        (λ r u. gives_then (λ (b : Walked). NamesNoOwn o x) (λ (b : Walked). NamesNoOwn o x) (judged_host places cs es (with_counter places cs es a f.name) turning x) (λ b. Ok (ended places cs es a (Repeat r.0 r.1 (Block b.steps)) b))
+        gives_then (λ (r : Asked × Asked). Unit {0}) (λ (b : Walked). NamesNoOwn o x) (judged_bounds places cs es a f)
+            (λ r. judged_host places cs es (with_counter places cs es a f.name) turning x >>= λ b. Ok
+            (ended places cs es a (Repeat r.0 r.1 (Block b.steps)) b)) (gives_any (judged_bounds places cs es a f))
+        (λ r u. gives_then (λ (b : Walked). NamesNoOwn o x) (λ (b : Walked). NamesNoOwn o x)
+            (judged_host places cs es (with_counter places cs es a f.name) turning x)
+            (λ b. Ok (ended places cs es a (Repeat r.0 r.1 (Block b.steps)) b))
         (host_unhidden done o (with_counter places cs es a f.name) turning x (counter_goes cs fs apart places es done a f.name h) (counter_scoped places cs es file own a f.name s)) (λ b i. i))
     host_unhidden done own a w (tree.HostCall c) h s = call_unhidden done own a w c h s
 
-    pub hosts_unhidden : (done : List (List ℕ)) (own : Known) (a : Walked) (w : Spot) (xs : HostTrees) → Have cs fs apart places es done a → At places cs es file own a → Gives (λ (b : Walked). AllNameNoOwn own xs) (judged_hosts places cs es a w xs)
+    pub hosts_unhidden : (done : List (List ℕ)) (own : Known) (a : Walked) (w : Spot) (xs : HostTrees) → Have cs fs apart places es done a
+        → At places cs es file own a → Gives (λ (b : Walked). AllNameNoOwn own xs) (judged_hosts places cs es a w xs)
     hosts_unhidden done own a w tree.NoHost h s = tt
     hosts_unhidden done own a w (tree.MoreHost x xs) h s =
         let o = after_host own x in
-        gives_then (On done own x) (λ (b : Walked). NamesNoOwn own x × AllNameNoOwn o xs) (judged_host places cs es a w x) (λ b. judged_hosts places cs es b w xs) (host_on done own a w x h s (host_unhidden done own a w x h s))
+        gives_then (On done own x) (λ (b : Walked). NamesNoOwn own x × AllNameNoOwn o xs) (judged_host places cs es a w x)
+            (λ b. judged_hosts places cs es b w xs) (host_on done own a w x h s (host_unhidden done own a w x h s))
         (λ b i. with_first (judged_hosts places cs es b w xs) i.0 (hosts_unhidden (done ++ constant_names x) o b w xs i.2 i.1))
       where
-        with_first : (j : Judged Walked) → NamesNoOwn own x → Gives (λ (b : Walked). AllNameNoOwn (after_host own x) xs) j → Gives (λ (b : Walked). NamesNoOwn own x × AllNameNoOwn (after_host own x) xs) j
+        with_first : (j : Judged Walked) → NamesNoOwn own x → Gives (λ (b : Walked). AllNameNoOwn (after_host own x) xs) j
+            → Gives (λ (b : Walked). NamesNoOwn own x × AllNameNoOwn (after_host own x) xs) j
         with_first (Ok b) n h = (n, h)
         with_first (Err e) n h = tt
 

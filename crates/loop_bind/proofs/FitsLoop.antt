@@ -117,13 +117,16 @@ module _ (ks : List RKernel) (es : List Named) (places : List Pos) (k : Declared
   dat_there : (x : Ident) → Below (dat_count k.mesh) (dat_of (means k.names x.name))
   dat_there x = dat_below ks k.mesh k.vars k.cells (means k.names x.name) (means_fits ks es k h x.name)
 
-  reach : (set : Option ℕ) (x : Ident) (i : ArgIndex) (v : ArgVia) → is_none set ≡ false → reach_found places es k set x i v ≡ [] → map_found places es k.names v ≡ [] → (a : Access) → ArgFits (so_far ks k) (or_zero set) (Dat (or_zero (dat_of (means k.names x.name))) (via_of places es k.names i v) a)
+  reach : (set : Option ℕ) (x : Ident) (i : ArgIndex) (v : ArgVia) → is_none set ≡ false → reach_found places es k set x i v ≡ []
+      → map_found places es k.names v ≡ [] → (a : Access)
+      → ArgFits (so_far ks k) (or_zero set) (Dat (or_zero (dat_of (means k.names x.name))) (via_of places es k.names i v) a)
   reach set x i v s n o a = pick v n o
     where
       d : Option ℕ
       d = dat_of (means k.names x.name)
 
-      pick : (v : ArgVia) → reach_found places es k set x i v ≡ [] → map_found places es k.names v ≡ [] → ArgFits (so_far ks k) (or_zero set) (Dat (or_zero (dat_of (means k.names x.name))) (via_of places es k.names i v) a)
+      pick : (v : ArgVia) → reach_found places es k set x i v ≡ [] → map_found places es k.names v ≡ []
+          → ArgFits (so_far ks k) (or_zero set) (Dat (or_zero (dat_of (means k.names x.name))) (via_of places es k.names i v) a)
       pick (via.Identity p) n o =
           let f1 = found_if places (is_none (dat_of (means k.names x.name))) x.at refusal.UnknownDat in
           let f2 = found_if places (is_wrong_set k.mesh set (dat_of (means k.names x.name)) (via.Identity p) None) x.at refusal.SetMismatch in
@@ -133,7 +136,9 @@ module _ (ks : List RKernel) (es : List Named) (places : List Pos) (k : Declared
           let below = known_below (dat_count k.mesh) (dat_of (means k.names x.name)) (dat_there x) known in (
             below,
             dat_dim_small k.mesh (or_zero (dat_of (means k.names x.name))) h.dims below,
-            direct_fits k.mesh ks k.sites k.vars [] i set (dat_of (means k.names x.name)) p s known (not_if places (is_wrong_set k.mesh set (dat_of (means k.names x.name)) (via.Identity p) None) x.at refusal.SetMismatch (right_nil f1 f2 n12)),
+            direct_fits k.mesh ks k.sites k.vars [] i set (dat_of (means k.names x.name)) p s known
+                (not_if places (is_wrong_set k.mesh set (dat_of (means k.names x.name)) (via.Identity p) None) x.at refusal.SetMismatch
+                (right_nil f1 f2 n12)),
           )
       pick (via.Map y) n o =
           let q = map_of (means k.names y.name) in
@@ -145,13 +150,15 @@ module _ (ks : List RKernel) (es : List Named) (places : List Pos) (k : Declared
           let below = known_below (dat_count k.mesh) (dat_of (means k.names x.name)) (dat_there x) known in (
             below,
             dat_dim_small k.mesh (or_zero (dat_of (means k.names x.name))) h.dims below,
-            via_fits k.mesh ks k.sites k.vars [] i y set (dat_of (means k.names x.name)) (map_of (means k.names y.name)) s known (not_if places (is_none (map_of (means k.names y.name))) y.at refusal.UnknownMap o)
+            via_fits k.mesh ks k.sites k.vars [] i y set (dat_of (means k.names x.name)) (map_of (means k.names y.name)) s known
+                (not_if places (is_none (map_of (means k.names y.name))) y.at refusal.UnknownMap o)
                 (map_below ks k.mesh k.vars k.cells (means k.names y.name) (means_fits ks es k h y.name))
                 (not_if places (is_wrong_set k.mesh set (dat_of (means k.names x.name)) (via.Map y) q) x.at refusal.SetMismatch (right_nil f1 f2 n12))
                 (not_if places (is_wrong_index k.mesh i (via.Map y) q) i.at refusal.IndexRange (right_nil (f1 ++ f2) f3 n)),
           )
 
-  global_is : (set : ℕ) (before : List Earlier) (g : GlobalName) (n : NumberLiteral) (a : Access) (a_at : ℕ) (o : Option GlobalVar) → IfSome o (GlobalFits k.vars) → count_of n ≤ max_dim → global_found places es before g n a a_at o ≡ []
+  global_is : (set : ℕ) (before : List Earlier) (g : GlobalName) (n : NumberLiteral) (a : Access) (a_at : ℕ) (o : Option GlobalVar)
+      → IfSome o (GlobalFits k.vars) → count_of n ≤ max_dim → global_found places es before g n a a_at o ≡ []
       → Fine set before (Global (var_number places es o) a)
   global_is set before g n a a_at None f l e =
       let f1 = found_if places true g.name.at refusal.UnknownEntry in
@@ -164,11 +171,14 @@ module _ (ks : List RKernel) (es : List Named) (places : List Pos) (k : Declared
       let f3 = found_if places (is_wrong_dim (Some v.count) (count_of n)) n.at refusal.DimMismatch in
       let f4 = found_if places (is_reserved v.is_kept a) a_at refusal.ReservedAccess in
       let e123 : f1 ++ f2 ++ f3 ≡ [] = left_nil (f1 ++ f2 ++ f3) f4 e in
-      let dim = or_parts (nat_eq (count_of n) 0) (not (nat_eq (count_of n) v.count)) (not_if places (is_wrong_dim (Some v.count) (count_of n)) n.at refusal.DimMismatch (right_nil (f1 ++ f2) f3 e123)) in
+      let dim = or_parts (nat_eq (count_of n) 0) (not (nat_eq (count_of n) v.count))
+          (not_if places (is_wrong_dim (Some v.count) (count_of n)) n.at refusal.DimMismatch (right_nil (f1 ++ f2) f3 e123)) in
       let some : 0 < count_of n = positive (count_of n) dim.0 in
       let same : count_of n ≡ v.count = equal_from_not (count_of n) v.count dim.1 in
       record {
-        fits = (f.var, omega (arith, f.start, some, same), omega (arith, f.start, l, same), access_fits a v.is_kept (at k.vars v.var).constant (not_if places (is_reserved v.is_kept a) a_at refusal.ReservedAccess (right_nil (f1 ++ f2 ++ f3) f4 e)) f.kept);
+        fits = (f.var, omega (arith, f.start, some, same), omega (arith, f.start, l, same),
+            access_fits a v.is_kept (at k.vars v.var).constant
+            (not_if places (is_reserved v.is_kept a) a_at refusal.ReservedAccess (right_nil (f1 ++ f2 ++ f3) f4 e)) f.kept);
         away = away_global before v.var a (not_if places (is_twice before v.var a) (glob_token places g) refusal.GlobalTwice (right_nil f1 f2 (left_nil (f1 ++ f2) f3 e123)));
       }
 
@@ -200,7 +210,9 @@ module _ (ks : List RKernel) (es : List Named) (places : List Pos) (k : Declared
     away : AllAway before xs
     apart : AllApart xs
 
-  behind_global : (set : ℕ) (before : List Earlier) (a : Access) (o : Option GlobalVar) (xs : List Arg) → is_none o ≡ false → Fine set before (Global (var_number places es o) a) → AllFine set (earlier_by before a o) xs → AllFine set before (Global (var_number places es o) a ∷ xs)
+  behind_global : (set : ℕ) (before : List Earlier) (a : Access) (o : Option GlobalVar) (xs : List Arg) → is_none o ≡ false
+      → Fine set before (Global (var_number places es o) a) → AllFine set (earlier_by before a o) xs
+      → AllFine set before (Global (var_number places es o) a ∷ xs)
   behind_global set before a None xs n f r = never n
   behind_global set before a (Some v) xs n f r = record {
     fits = All-cons (ArgFits (so_far ks k) set) (Global v.var a) xs f.fits r.fits;
@@ -216,7 +228,8 @@ module _ (ks : List RKernel) (es : List Named) (places : List Pos) (k : Declared
       let f3 = found_if places (is_reserved false a) a_at refusal.ReservedAccess in
       never (not_if places true g.name.at refusal.UnknownEntry (left_nil f1 f2 (left_nil (f1 ++ f2) f3 e)))
 
-  args_are : (set : Option ℕ) (before : List Earlier) (args : List LoopArg) → is_none set ≡ false → AllThere ks es k args → args_found places es k set before args ≡ [] → AllFine (or_zero set) before (map (arg_of places es k) args)
+  args_are : (set : Option ℕ) (before : List Earlier) (args : List LoopArg) → is_none set ≡ false → AllThere ks es k args
+      → args_found places es k set before args ≡ [] → AllFine (or_zero set) before (map (arg_of places es k) args)
   args_are set before [] s t e = record { fits = All-nil (ArgFits (so_far ks k) (or_zero set)); away = tt; apart = tt }
   args_are set before (tree.Dat p x i v n l a a_at ∷ args) s t e =
       let y = tree.Dat p x i v n l a a_at in

@@ -173,33 +173,41 @@ module _ (ks : List RKernel) (es : List Named) where
   named k l x m g = record { vars = g.vars; cells = g.cells; sets = g.sets; maps = g.maps; dats = g.dats; sites = g.sites }
 
   -- a name and its variable
-  pub goes_var : (k : Declared) (x : List ℕ) (m : Meaning) (v : VarValue) → Lawful ks es k → MeaningFits ks k.mesh (k.vars ++ v ∷ []) (k.cells + length v.start) m → IsOwn m → Goes ks es k (with_name x m (with_var v k))
+  pub goes_var : (k : Declared) (x : List ℕ) (m : Meaning) (v : VarValue) → Lawful ks es k
+      → MeaningFits ks k.mesh (k.vars ++ v ∷ []) (k.cells + length v.start) m → IsOwn m → Goes ks es k (with_name x m (with_var v k))
   goes_var k x m v h f o = record { lawful = lawful-own ks es (with_var v k) x m (lawful-var ks es k v h) f o; grows = named k (with_var v k) x m (grows-var ks es k v); file = refl }
 
   pub goes_name : (k : Declared) (x : List ℕ) (m : Meaning) → Lawful ks es k → MeaningFits ks k.mesh k.vars k.cells m → IsOwn m → Goes ks es k (with_name x m k)
   goes_name k x m h f o = record { lawful = lawful-own ks es k x m h f o; grows = named k k x m (grows-self k); file = refl }
 
   goes_changing : (places : List Pos) (k : Declared) (x : List ℕ) (is_array : Bool) (n : ℕ) → Lawful ks es k → 0 < n → Goes ks es k (with_changing places k x is_array n)
-  goes_changing places k x is_array n h l = goes_var k x (Variable (next_cells k false is_array n)) (changing x (replicate n (pos 0))) h (next-fits ks es k (changing x (replicate n (pos 0))) false is_array n (length-replicate n (pos 0)) l) tt
+  goes_changing places k x is_array n h l = goes_var k x (Variable (next_cells k false is_array n)) (changing x (replicate n (pos 0))) h
+      (next-fits ks es k (changing x (replicate n (pos 0))) false is_array n (length-replicate n (pos 0)) l) tt
 
   module _ (places : List Pos) where
     const_is : (in_for is_nested : Bool) (a : Walked) (x : List ℕ) (e : ExprTree) → Walks ks es a → HasNumbers e → Gives (WalksOn ks es a.declared) (const_at places in_for is_nested a x e)
     const_is true is_nested a x e w f =
-        gives_then (λ (v : Asked). Within a.declared.cells v.value) (WalksOn ks es a.declared) (judged_static places a.declared.names e) (λ v. Ok (does (Fix v None) (behind a (with_turning places a.declared x)))) (static_within ks es places a.declared w.lawful e f)
+        gives_then (λ (v : Asked). Within a.declared.cells v.value) (WalksOn ks es a.declared) (judged_static places a.declared.names e)
+            (λ v. Ok (does (Fix v None) (behind a (with_turning places a.declared x)))) (static_within ks es places a.declared w.lawful e f)
         (λ v i. walks_does a (with_turning places a.declared x) (Fix v None) w (goes_name a.declared x (Turning (told_later a.declared.names)) w.lawful tt tt) (i, tt))
     const_is false true a x e w f =
         let k = a.declared in
         let var = unchanging x (pos 0) None in
         let later = next-fits ks es k var false false 1 refl (omega arith) in
-        gives_then (λ (v : Asked). Within k.cells v.value) (WalksOn ks es k) (judged_static places k.names e) (λ v. Ok (does (Fix v (Some (length k.vars))) (behind a (with_fixed_later places k x)))) (static_within ks es places k w.lawful e f)
+        gives_then (λ (v : Asked). Within k.cells v.value) (WalksOn ks es k) (judged_static places k.names e)
+            (λ v. Ok (does (Fix v (Some (length k.vars))) (behind a (with_fixed_later places k x))))
+            (static_within ks es places k w.lawful e f)
         (λ v i. walks_does a (with_fixed_later places k x) (Fix v (Some (length k.vars))) w (goes_var k x (FixedLater (told_later k.names) (next_cells k false false 1)) var w.lawful later tt)
         (within_more k.cells (k.cells + 1) (omega arith) v.value i, record { var = later.var; one = later.start }))
     const_is false false a x e w f =
         let k = a.declared in
         gives_then Num (WalksOn ks es k) (judged_value places k.names e) (λ z. Ok (behind a (with_fixed places k x z))) (value_is_num ks es places k w.lawful e f)
-        (λ z i. walks_behind a (with_fixed places k x z) w (goes_var k x (Fixed z (next_cells k false false 1)) (unchanging x z None) w.lawful (i, next-fits ks es k (unchanging x z None) false false 1 refl (omega arith)) tt))
+        (λ z i. walks_behind a (with_fixed places k x z) w
+            (goes_var k x (Fixed z (next_cells k false false 1)) (unchanging x z None) w.lawful
+            (i, next-fits ks es k (unchanging x z None) false false 1 refl (omega arith)) tt))
 
-    cleared : (a : Walked) (x : List ℕ) (is_array : Bool) (n : ℕ) → Walks ks es a → 0 < n → WalksOn ks es a.declared (does (Do (Clear (length a.declared.vars))) (behind a (with_changing places a.declared x is_array n)))
+    cleared : (a : Walked) (x : List ℕ) (is_array : Bool) (n : ℕ) → Walks ks es a → 0 < n
+        → WalksOn ks es a.declared (does (Do (Clear (length a.declared.vars))) (behind a (with_changing places a.declared x is_array n)))
     cleared a x is_array n w l =
         walks_does a (with_changing places a.declared x is_array n) (Do (Clear (length a.declared.vars))) w (goes_changing places a.declared x is_array n w.lawful l)
         (next-fits ks es a.declared (changing x (replicate n (pos 0))) false is_array n (length-replicate n (pos 0)) l).var

@@ -149,7 +149,8 @@ module _ (cs : List ConstDecl) (fs : List FileVariable) (apart : NamesApart fs) 
         by_own (Some (m.FixedLater t c)) f = tt
         by_own (Some (m.Turning t)) f = tt
 
-    pub constant_goes : (done : List (List ℕ)) (k : Declared) (n : Bool) (t : ℕ) (d : NumberLiteral) (l : TextLiteral) (g : GlobalName) → MainConsts done k → Gives (MainConsts (done ++ g.name.name ∷ [])) (judged_constant places cs k n t d l g)
+    pub constant_goes : (done : List (List ℕ)) (k : Declared) (n : Bool) (t : ℕ) (d : NumberLiteral) (l : TextLiteral) (g : GlobalName)
+        → MainConsts done k → Gives (MainConsts (done ++ g.name.name ∷ [])) (judged_constant places cs k n t d l g)
     constant_goes done k n t d l g h =
         gives_unless (MainConsts (done ++ g.name.name ∷ [])) (constant_decl_found places k n t d l g) (after_constant places cs k g.name.name (file_cells places (means k.names g.name.name)))
         (λ none.
@@ -161,6 +162,7 @@ module _ (cs : List ConstDecl) (fs : List FileVariable) (apart : NamesApart fs) 
         pick (file_cells places (means k.names x)) (right_nil p c (left_nil (p ++ c) y none))
         (cells_are x (named_in k.names.own x) (named_in k.names.file x) (All-lookup OfMain (bytes_eq x) k.names.own h.own) (found_named (EntryNamed cs fs) x k.names.file h.file)))
       where
-        pick : (o : Option Cells) → constant_found places d g o ≡ [] → IfSome o (λ c. HasName cs fs c.var g.name.name) → MainConsts (done ++ g.name.name ∷ []) (after_constant places cs k g.name.name o)
+        pick : (o : Option Cells) → constant_found places d g o ≡ [] → IfSome o (λ c. HasName cs fs c.var g.name.name)
+            → MainConsts (done ++ g.name.name ∷ []) (after_constant places cs k g.name.name o)
         pick None e i = never (not_if places true g.name.at refusal.UnknownEntry (left_nil (found_if places true g.name.at refusal.UnknownEntry) _ e))
         pick (Some c) e i = record { tagged = tagged_constant cs places done g.name.name fs k.vars c.var apart i h.tagged; file = h.file; own = h.own }

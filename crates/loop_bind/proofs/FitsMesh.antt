@@ -70,7 +70,9 @@ module _ (ks : List RKernel) (g : MeshValue) (vs : List VarValue) (n : ℕ) wher
 -- ---- what was not found
 
 pub no_site_yet : (places : List Pos) (k : Declared) (nested : Bool) (t : ℕ) → place_found places k nested t ≡ [] → k.sites ≡ []
-no_site_yet places k nested t e = none k.sites (ltb-false 0 (length k.sites) (or_parts nested (nat_lt 0 (length k.sites)) (not_if places (nested || nat_lt 0 (length k.sites)) t refusal.DeclarationPlace e)).1)
+no_site_yet places k nested t e = none k.sites
+    (ltb-false 0 (length k.sites) (or_parts nested (nat_lt 0 (length k.sites))
+    (not_if places (nested || nat_lt 0 (length k.sites)) t refusal.DeclarationPlace e)).1)
   where
     none : (ss : List SiteValue) → length ss ≤ 0 → ss ≡ []
     none [] l = refl
@@ -111,7 +113,9 @@ no_stray size i (z ∷ zs) e = pick (λ h. no_stray size (suc i) zs h) (is_eleme
 module _ (places : List Pos) (g : MeshValue) (x : Ident) where
   elements_are : (n dim to : ℕ) (zs : Option (List ℤ)) → data_found places zs (Some n) x ≡ [] → target_found places g dim x zs (Some n) (Some to) ≡ [] → AreElements (set_size g to) (or_none zs)
   elements_are n dim to None d e = All-nil (λ t. is_element (set_size g to) t ≡ true)
-  elements_are n dim to (Some zs) d e = stray (first_stray (set_size g to) 0 zs) refl (subst (λ b. (if b then stray_found places (map_count g) dim x (first_stray (set_size g to) 0 zs) else []) ≡ []) (not-false (nat_eq (length zs) n) (not_if places (not (nat_eq (length zs) n)) x.at refusal.DimMismatch d)) e)
+  elements_are n dim to (Some zs) d e = stray (first_stray (set_size g to) 0 zs) refl
+      (subst (λ b. (if b then stray_found places (map_count g) dim x (first_stray (set_size g to) 0 zs) else []) ≡ [])
+      (not-false (nat_eq (length zs) n) (not_if places (not (nat_eq (length zs) n)) x.at refusal.DimMismatch d)) e)
     where
       stray : (o : Option ℕ) → first_stray (set_size g to) 0 zs ≡ o → stray_found places (map_count g) dim x o ≡ [] → AreElements (set_size g to) zs
       stray None f h = no_stray (set_size g to) 0 zs f

@@ -28,11 +28,14 @@ or_true true = refl
 or_true false = refl
 
 more_same : (f : FileVariable) (x : List ℕ) (done : List (List ℕ)) → f.name ≢ x → is_constant (done ++ x ∷ []) f ≡ is_constant done f
-more_same f x done d = ap (λ b. f.is_const || b) (list_any-append (bytes_eq f.name) done (x ∷ []) ∙ ap (λ b. list_any (bytes_eq f.name) done || (b || false)) (not_same f.name x d) ∙ or-false (list_any (bytes_eq f.name) done))
+more_same f x done d = ap (λ b. f.is_const || b) (list_any-append (bytes_eq f.name) done (x ∷ [])
+    ∙ ap (λ b. list_any (bytes_eq f.name) done || (b || false)) (not_same f.name x d) ∙ or-false (list_any (bytes_eq f.name) done))
 
 more_here : (f : FileVariable) (x : List ℕ) (done : List (List ℕ)) → f.name ≡ x → is_constant (done ++ x ∷ []) f ≡ true
 more_here f x done e =
-    ap (λ b. f.is_const || b) (list_any-append (bytes_eq f.name) done (x ∷ []) ∙ ap (λ b. list_any (bytes_eq f.name) done || (b || false)) ((bytes_eq-Decides f.name x).1 e) ∙ or_true (list_any (bytes_eq f.name) done))
+    ap (λ b. f.is_const || b) (list_any-append (bytes_eq f.name) done (x ∷ [])
+        ∙ ap (λ b. list_any (bytes_eq f.name) done || (b || false)) ((bytes_eq-Decides f.name x).1 e)
+        ∙ or_true (list_any (bytes_eq f.name) done))
     ∙ or_true f.is_const
 
 -- ---- the file's variables and the program's
@@ -67,7 +70,8 @@ module _ (cs : List ConstDecl) where
   tagged_push done (f ∷ fs) (v ∷ vs) x e h = (h.0, tagged_push done fs vs x e h.1)
 
   -- a further variable of the file
-  pub tagged_next : (done : List (List ℕ)) (fs : List FileVariable) (vs : List VarValue) (f : FileVariable) (v : VarValue) → Tagged done fs vs → length vs ≡ length fs → Tag done f v → Tagged done (fs ++ f ∷ []) (vs ++ v ∷ [])
+  pub tagged_next : (done : List (List ℕ)) (fs : List FileVariable) (vs : List VarValue) (f : FileVariable) (v : VarValue)
+      → Tagged done fs vs → length vs ≡ length fs → Tag done f v → Tagged done (fs ++ f ∷ []) (vs ++ v ∷ [])
   tagged_next done [] [] f v h e t = (t, tt)
   tagged_next done [] (w ∷ vs) f v h e t = absurd (omega (arith, e))
   tagged_next done (g ∷ fs) [] f v h e t = absurd h
@@ -97,7 +101,8 @@ module _ (cs : List ConstDecl) where
       let d : x ≢ f.name = All-head (λ (g : FileVariable). x ≢ g.name) f fs a in
       ((h.0.0 ∙ ap (λ b. cell_if b (first_cell cs f.name)) (sym (more_same f x done (λ e. d (sym e)))), h.0.1), tagged_other done x fs vs (All-tail (λ (g : FileVariable). x ≢ g.name) f fs a) h.1)
 
-  pub tagged_constant : (places : List Pos) (done : List (List ℕ)) (x : List ℕ) (fs : List FileVariable) (vs : List VarValue) (v : ℕ) → NamesApart fs → HasName fs v x → Tagged done fs vs → Tagged (done ++ x ∷ []) fs (with_constant places v (first_cell cs x) vs)
+  pub tagged_constant : (places : List Pos) (done : List (List ℕ)) (x : List ℕ) (fs : List FileVariable) (vs : List VarValue) (v : ℕ)
+      → NamesApart fs → HasName fs v x → Tagged done fs vs → Tagged (done ++ x ∷ []) fs (with_constant places v (first_cell cs x) vs)
   tagged_constant places done x [] vs v a n h = absurd (omega (arith, n.below))
   tagged_constant places done x (f ∷ fs) [] v a n h = absurd h
   tagged_constant places done x (f ∷ fs) (w ∷ vs) zero a n h =

@@ -92,16 +92,19 @@ module _ (b : BoundValue) where
   choose_fits true f g h k = h
   choose_fits false f g h k = k
 
-  turns_fit : (bound : ℤ → Option ℤ) (body : ℤ → List Event) (p : Pos) → ((j : ℤ) → Num j → IfSome (bound j) Num) → ((j : ℤ) → Num j → EventsFit None (body j)) → (left : ℕ) (i : ℤ) → Num i → EventsFit None (turns bound body p left i)
+  turns_fit : (bound : ℤ → Option ℤ) (body : ℤ → List Event) (p : Pos) → ((j : ℤ) → Num j → IfSome (bound j) Num)
+      → ((j : ℤ) → Num j → EventsFit None (body j)) → (left : ℕ) (i : ℤ) → Num i → EventsFit None (turns bound body p left i)
   unfolding turns
   turns_fit bound body p hb he zero i f = tt
   turns_fit bound body p hb he (suc left) i f = pick (λ g. turns_fit bound body p hb he left (i +ℤ pos 1) g) (bound i) (hb i f)
     where
-      go : (past : ℤ) → (Num (i +ℤ pos 1) → EventsFit None (turns bound body p left (i +ℤ pos 1))) → Num past → (q : Bool) → int_lt i past ≡ q → EventsFit None (choose q (λ u. Turn ∷ (body i ++ turns bound body p left (i +ℤ pos 1))) nothing)
+      go : (past : ℤ) → (Num (i +ℤ pos 1) → EventsFit None (turns bound body p left (i +ℤ pos 1))) → Num past → (q : Bool)
+          → int_lt i past ≡ q → EventsFit None (choose q (λ u. Turn ∷ (body i ++ turns bound body p left (i +ℤ pos 1))) nothing)
       go past rest g true e = events_then None (body i) (turns bound body p left (i +ℤ pos 1)) (he i f) (rest (next_num i past f g e))
       go past rest g false e = tt
 
-      pick : (Num (i +ℤ pos 1) → EventsFit None (turns bound body p left (i +ℤ pos 1))) → (o : Option ℤ) → IfSome o Num → EventsFit None (counts o i p (λ u. Turn ∷ (body i ++ turns bound body p left (i +ℤ pos 1))))
+      pick : (Num (i +ℤ pos 1) → EventsFit None (turns bound body p left (i +ℤ pos 1))) → (o : Option ℤ) → IfSome o Num
+          → EventsFit None (counts o i p (λ u. Turn ∷ (body i ++ turns bound body p left (i +ℤ pos 1))))
       pick rest None g = tt
       pick rest (Some past) g = go past rest g (int_lt i past) refl
 
@@ -178,7 +181,9 @@ module _ (b : BoundValue) where
     pub few : length u.items ≤ left
 
   -- behind one item
-  item_then : (x : ItemValue) (o p : Option ℕ) (left : ℕ) (r : Judged UnrolledValue) → ((xs : List ItemValue) → ItemsFit b p xs → ItemsFit b o (x ∷ xs)) → Gives (Unrolls p left) r → Gives (Unrolls o (suc left)) (before (item x) r)
+  item_then : (x : ItemValue) (o p : Option ℕ) (left : ℕ) (r : Judged UnrolledValue)
+      → ((xs : List ItemValue) → ItemsFit b p xs → ItemsFit b o (x ∷ xs)) → Gives (Unrolls p left) r
+      → Gives (Unrolls o (suc left)) (before (item x) r)
   item_then x o p left (Err e) f h = tt
   item_then x o p left (Ok u) f h = record { items = f u.items h.items; values = h.values; few = omega (arith, h.few) }
 

@@ -104,11 +104,13 @@ module _ (ks : List RKernel) (es : List Named) where
     file = names_more ks k (with_var v k) (grows-var k v) k.names.file h.file;
     own = names_more ks k (with_var v k) (grows-var k v) k.names.own h.own;
     mine = h.mine;
-    externs = All-weaker (ExternFits es k.names.file k.vars) (ExternFits es k.names.file (k.vars ++ v ∷ [])) (extern_more es k.names.file k.vars (k.vars ++ v ∷ []) (vars-push k.vars v)) k.externs h.externs;
+    externs = All-weaker (ExternFits es k.names.file k.vars) (ExternFits es k.names.file (k.vars ++ v ∷ []))
+        (extern_more es k.names.file k.vars (k.vars ++ v ∷ []) (vars-push k.vars v)) k.externs h.externs;
     sites = All-weaker (SiteFits (so_far ks k)) (SiteFits (so_far ks (with_var v k))) (site_more k.mesh ks k.sites k.sites k.vars (k.vars ++ v ∷ []) [] [] (kept-push k.vars v)) k.sites h.sites;
   }
 
-  pub next-fits : (k : Declared) (v : VarValue) (of_file is_array : Bool) (n : ℕ) → length v.start ≡ n → 0 < n → CellsFit (k.vars ++ v ∷ []) (k.cells + length v.start) (next_cells k of_file is_array n)
+  pub next-fits : (k : Declared) (v : VarValue) (of_file is_array : Bool) (n : ℕ) → length v.start ≡ n → 0 < n
+      → CellsFit (k.vars ++ v ∷ []) (k.cells + length v.start) (next_cells k of_file is_array n)
   next-fits k v of_file is_array n e l = record {
     var = omega (arith, length_push k.vars v);
     start = ap (λ (y : VarValue). length y.start) (at_last k.vars v) ∙ e;

@@ -125,7 +125,9 @@ module _ (es : List Named) (places : List Pos) (k : Declared) (h : Leaves k) whe
   by-kept v a e (inl t) = inl (reads a (subst (λ b. is_reserved b a ≡ false) t e))
   by-kept v a e (inr f) = inr f
 
-  global-free : (before : List Earlier) (g : GlobalName) (n : NumberLiteral) (a : Access) (a_at : ℕ) (o : Option GlobalVar) → IfSome o (IsKeptOrFree k.vars) → global_found places es before g n a a_at o ≡ [] → ArgIsFree k.vars (Global (var_number places es o) a)
+  global-free : (before : List Earlier) (g : GlobalName) (n : NumberLiteral) (a : Access) (a_at : ℕ) (o : Option GlobalVar)
+      → IfSome o (IsKeptOrFree k.vars) → global_found places es before g n a a_at o ≡ []
+      → ArgIsFree k.vars (Global (var_number places es o) a)
   global-free before g n a a_at None f e =
       let f1 = found_if places true g.name.at refusal.UnknownEntry in
       let f2 = found_if places (nat_eq (count_of n) 0) n.at refusal.DimMismatch in
@@ -151,7 +153,8 @@ module _ (es : List Named) (places : List Pos) (k : Declared) (h : Leaves k) whe
   args-free set before (x ∷ xs) e =
       let f1 = arg_found places es k set before x in
       let f2 = args_found places es k set (with_earlier places es k x before) xs in
-      All-cons (ArgIsFree k.vars) (arg_of places es k x) (map (arg_of places es k) xs) (arg-free set before x (left_nil f1 f2 e)) (args-free set (with_earlier places es k x before) xs (right_nil f1 f2 e))
+      All-cons (ArgIsFree k.vars) (arg_of places es k x) (map (arg_of places es k) xs) (arg-free set before x (left_nil f1 f2 e))
+          (args-free set (with_earlier places es k x before) xs (right_nil f1 f2 e))
 
   site-free : (t : ℕ) (f on : Ident) (args : List LoopArg) → loop_found places es k t f on args ≡ [] → SiteIsFree k.vars (site places es k t f on args)
   site-free t f on args e =

@@ -79,7 +79,8 @@ pub nothing-leaves : Leaves nothing_declared
 nothing-leaves = record { file = All-nil (NameLeaves []); own = All-nil (NameLeaves []); sites = All-nil (SiteIsFree []) }
 
 module _ (places : List Pos) (cs : List ConstDecl) (es : List Named) where
-  file-changing : (k : Declared) (x : List ℕ) (is_array : Bool) (n : ℕ) (zs : List ℤ) → Leaves k → LeavesOn k (with_file_name x (m.Variable (next_cells k true is_array n)) (with_var (changing x zs) k))
+  file-changing : (k : Declared) (x : List ℕ) (is_array : Bool) (n : ℕ) (zs : List ℤ) → Leaves k
+      → LeavesOn k (with_file_name x (m.Variable (next_cells k true is_array n)) (with_var (changing x zs) k))
   file-changing k x is_array n zs h = on-file k x (m.Variable (next_cells k true is_array n)) (changing x zs) h (free-last k.vars (changing x zs) refl)
 
   value-on : (k : Declared) (c : Bool) (x : List ℕ) (z : ℤ) → Leaves k → LeavesOn k (with_file_value places cs k c x z)
@@ -89,7 +90,8 @@ module _ (places : List Pos) (cs : List ConstDecl) (es : List Named) where
   file-declr : (k : Declared) (c : Bool) (d : DeclrTree) → Leaves k → Gives (LeavesOn k) (judged_file_declr places cs k c d)
   file-declr k c (tree.Plain x) h = file-changing k x.name false 1 (pos 0 ∷ []) h
   file-declr k c (tree.Init x e) h =
-      gives_then (λ z. Unit {0}) (LeavesOn k) (judged_value places k.names e) (λ z. Ok (with_file_value places cs k c x.name z)) (gives_any (judged_value places k.names e)) (λ z u. value-on k c x.name z h)
+      gives_then (λ z. Unit {0}) (LeavesOn k) (judged_value places k.names e) (λ z. Ok (with_file_value places cs k c x.name z))
+          (gives_any (judged_value places k.names e)) (λ z u. value-on k c x.name z h)
   file-declr k c (tree.Array x n) h = file-changing k x.name true (count_of n) (replicate (count_of n) (pos 0)) h
 
   file-declrs : (k : Declared) (c : Bool) (ds : List DeclrTree) → Leaves k → Gives (LeavesOn k) (judged_file_declrs places cs k c ds)
@@ -133,18 +135,23 @@ module _ (places : List Pos) where
 
   const-on : (in_for is_nested : Bool) (a : Walked) (x : List ℕ) (e : ExprTree) → WalkLeaves a → Gives (WalkOn a.declared) (const_at places in_for is_nested a x e)
   const-on true is_nested a x e w =
-      gives_then (λ (v : Asked). Unit {0}) (WalkOn a.declared) (judged_static places a.declared.names e) (λ v. Ok (does (Fix v None) (behind a (with_turning places a.declared x)))) (gives_any (judged_static places a.declared.names e))
+      gives_then (λ (v : Asked). Unit {0}) (WalkOn a.declared) (judged_static places a.declared.names e)
+          (λ v. Ok (does (Fix v None) (behind a (with_turning places a.declared x)))) (gives_any (judged_static places a.declared.names e))
       (λ v i. walk-does a (with_turning places a.declared x) (Fix v None) w (on-name a.declared x (m.Turning (told_later a.declared.names)) w.declared tt) tt)
   const-on false true a x e w =
       let k = a.declared in
-      gives_then (λ (v : Asked). Unit {0}) (WalkOn k) (judged_static places k.names e) (λ v. Ok (does (Fix v (Some (length k.vars))) (behind a (with_fixed_later places k x)))) (gives_any (judged_static places k.names e))
-      (λ v i. walk-does a (with_fixed_later places k x) (Fix v (Some (length k.vars))) w (on-var k x (m.FixedLater (told_later k.names) (next_cells k false false 1)) (unchanging x (pos 0) None) w.declared tt) tt)
+      gives_then (λ (v : Asked). Unit {0}) (WalkOn k) (judged_static places k.names e)
+          (λ v. Ok (does (Fix v (Some (length k.vars))) (behind a (with_fixed_later places k x))))
+          (gives_any (judged_static places k.names e))
+      (λ v i. walk-does a (with_fixed_later places k x) (Fix v (Some (length k.vars))) w
+          (on-var k x (m.FixedLater (told_later k.names) (next_cells k false false 1)) (unchanging x (pos 0) None) w.declared tt) tt)
   const-on false false a x e w =
       let k = a.declared in
       gives_then (λ (z : ℤ). Unit {0}) (WalkOn k) (judged_value places k.names e) (λ z. Ok (behind a (with_fixed places k x z))) (gives_any (judged_value places k.names e))
       (λ z i. walk-behind a (with_fixed places k x z) w (on-var k x (m.Fixed z (next_cells k false false 1)) (unchanging x z None) w.declared tt))
 
-  cleared : (a : Walked) (x : List ℕ) (is_array : Bool) (n : ℕ) → WalkLeaves a → WalkOn a.declared (does (Do (Clear (length a.declared.vars))) (behind a (with_changing places a.declared x is_array n)))
+  cleared : (a : Walked) (x : List ℕ) (is_array : Bool) (n : ℕ) → WalkLeaves a
+      → WalkOn a.declared (does (Do (Clear (length a.declared.vars))) (behind a (with_changing places a.declared x is_array n)))
   cleared a x is_array n w =
       walk-does a (with_changing places a.declared x is_array n) (Do (Clear (length a.declared.vars))) w (changing-on a.declared x is_array n w.declared)
       (free-last a.declared.vars (changing x (replicate n (pos 0))) refl)

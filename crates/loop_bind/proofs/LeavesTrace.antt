@@ -60,7 +60,8 @@ module _ (vs : List VarValue) where
     where
       pick : EventsAreFree (turns bound body p left (i +ℤ pos 1)) → (o : Option ℤ) → EventsAreFree (counts o i p (λ u. Turn ∷ (body i ++ turns bound body p left (i +ℤ pos 1))))
       pick rest None = (tt, tt)
-      pick rest (Some past) = choose-free (int_lt i past) (λ u. Turn ∷ (body i ++ turns bound body p left (i +ℤ pos 1))) nothing (tt, then-free (body i) (turns bound body p left (i +ℤ pos 1)) (h i) rest) tt
+      pick rest (Some past) = choose-free (int_lt i past) (λ u. Turn ∷ (body i ++ turns bound body p left (i +ℤ pos 1))) nothing
+          (tt, then-free (body i) (turns bound body p left (i +ℤ pos 1)) (h i) rest) tt
 
   tells-free : (v : Option ℕ) (z : ℤ) → EventsAreFree (tells v z)
   tells-free None z = tt

@@ -16,7 +16,8 @@ unrolled_stops g es e (inl h) = inl h
 unrolled_stops g es e (inr h) = inr (ap (λ t. t >>= weighed g) h)
 
 -- it prints too much
-pub weight_stops : (g : MeshValue) (es : List Event) (u : UnrolledValue) (e : BindRefusal) → unrolled max_trace es ≡ Ok u → JudgesBy {X = Unit {0}} (λ t. t) (Err e) (within_weight (weight_of_all g u.items)) → JudgesBy {X = Unrolled} seen (Err e) (trace g es)
+pub weight_stops : (g : MeshValue) (es : List Event) (u : UnrolledValue) (e : BindRefusal) → unrolled max_trace es ≡ Ok u
+    → JudgesBy {X = Unit {0}} (λ t. t) (Err e) (within_weight (weight_of_all g u.items)) → JudgesBy {X = Unrolled} seen (Err e) (trace g es)
 weight_stops g es u e h (inl m) = inl m
 weight_stops g es u e h (inr m) = inr (ap (λ t. t >>= weighed g) h ∙ ap (λ t. t >>= λ _. Ok u) m)
 

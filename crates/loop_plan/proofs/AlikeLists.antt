@@ -35,7 +35,8 @@ found_lists s (e ∷ es) = ⊎_elim
     (cases_Bool (nat_eq s e.0))
 
 -- an entry is found by its key, where no earlier one has it
-pub found_at : (es : List (ℕ × SitePlanValue)) (i : ℕ) (d : ℕ × SitePlanValue) → i < length es → ((j : ℕ) → j < i → (get_or es j d).0 ≢ (get_or es i d).0) → lookup (nat_eq (get_or es i d).0) es ≡ Some (get_or es i d).1
+pub found_at : (es : List (ℕ × SitePlanValue)) (i : ℕ) (d : ℕ × SitePlanValue) → i < length es
+    → ((j : ℕ) → j < i → (get_or es j d).0 ≢ (get_or es i d).0) → lookup (nat_eq (get_or es i d).0) es ≡ Some (get_or es i d).1
 found_at [] i d l h = absurd (omega arith)
 found_at (e ∷ es) zero d l h = rw (eq-eqb e.0 e.0 refl) refl
 found_at (e ∷ es) (suc i) d l h =
@@ -84,9 +85,12 @@ pub loops_same : (es fs : List (ℕ × SitePlanValue)) → map entry es ≡ map 
 loops_same [] [] h = refl
 loops_same [] (f ∷ fs) h = longer (entry f) (map entry fs) h
 loops_same (e ∷ es) [] h = longer (entry e) (map entry es) (sym h)
-loops_same (e ∷ es) (f ∷ fs) h = rw (loop_same e f (same_head (entry e) (entry e) (entry f) (map entry es) (map entry fs) h), loops_same es fs (same_tail (entry e) (entry f) (map entry es) (map entry fs) h)) refl
+loops_same (e ∷ es) (f ∷ fs) h = rw
+    (loop_same e f (same_head (entry e) (entry e) (entry f) (map entry es) (map entry fs) h),
+    loops_same es fs (same_tail (entry e) (entry f) (map entry es) (map entry fs) h)) refl
 
-pub items_same : (g : MeshValue) (k : ℕ) (is : List ItemValue) (ps qs : List ItemPlanValue) → map (λ (p : ItemPlanValue). p.exchange) ps ≡ map (λ (p : ItemPlanValue). p.exchange) qs → item_lines g k is ps ≡ item_lines g k is qs
+pub items_same : (g : MeshValue) (k : ℕ) (is : List ItemValue) (ps qs : List ItemPlanValue)
+    → map (λ (p : ItemPlanValue). p.exchange) ps ≡ map (λ (p : ItemPlanValue). p.exchange) qs → item_lines g k is ps ≡ item_lines g k is qs
 items_same g k [] ps qs h = refl
 items_same g k (i ∷ is) [] [] h = refl
 items_same g k (i ∷ is) [] (q ∷ qs) h = longer q.exchange (map (λ (p : ItemPlanValue). p.exchange) qs) h

@@ -18,7 +18,8 @@ use Rattle.loop_plan.specs.OnePlan.{AreLeast, LeastColoursAreOne}
 use Rattle.loop_plan.proofs.AlikeMeshes.{length_same, rows_same, places_same}
 use Rattle.lemmas.proofs.Numbers.{same_bound}
 
-module _ (C D : ℕ → ℕ → Type 0) (to : (q p : ℕ) → C q p → D q p) (from : (q p : ℕ) → D q p → C q p) (xs ys : List ℕ) (n : ℕ) (h : (p : ℕ) → p < n → IsLeast C xs p) (k : (p : ℕ) → p < n → IsLeast D ys p) where
+module _ (C D : ℕ → ℕ → Type 0) (to : (q p : ℕ) → C q p → D q p) (from : (q p : ℕ) → D q p → C q p) (xs ys : List ℕ) (n : ℕ)
+    (h : (p : ℕ) → p < n → IsLeast C xs p) (k : (p : ℕ) → p < n → IsLeast D ys p) where
   least_here : (p : ℕ) → p < n → ((q : ℕ) → q < p → get_or xs q 0 ≡ get_or ys q 0) → get_or xs p 0 ≡ get_or ys p 0
   least_here p l ih = ⊎_elim
       (λ (e : get_or xs p 0 ≡ get_or ys p 0). e)
@@ -50,7 +51,8 @@ module _ (g : MeshValue) (ms ns : List (Vec ℕ Global)) (rows : (k : ℕ) → r
   blocks_to : (places size p q : ℕ) → BlocksConflict g ms args places size p q → BlocksConflict g ns args places size p q
   blocks_to places size p q c = (c.0, c.1, c.2, c.3, conflict_to c.0 c.1 c.4)
 
-module _ (g : MeshValue) (ms ns : List (Vec ℕ Global)) (rows : (k : ℕ) → row ms k ≡ row ns k) (args : List IncArg) (places size : ℕ) (c d : Colours) (h : AreColours g ms args places size c) (k : AreColours g ns args places size d) where
+module _ (g : MeshValue) (ms ns : List (Vec ℕ Global)) (rows : (k : ℕ) → row ms k ≡ row ns k) (args : List IncArg) (places size : ℕ)
+    (c d : Colours) (h : AreColours g ms args places size c) (k : AreColours g ns args places size d) where
   back : (k : ℕ) → row ns k ≡ row ms k
   back k = sym (rows k)
 
@@ -87,8 +89,10 @@ module _ (b : BoundValue) (meshes others : List RankMesh) (p q : PlanValue) (h :
 
   least_same : (mine_of.blocks.items ≡ yours_of.blocks.items) × (mine_of.inner.items ≡ yours_of.inner.items)
   least_same = (
-    blocks_same b.mesh (maps_of meshes r) (maps_of others r) (rows_same meshes others h.alike r) (reducing (site_at b s).args) (places_of meshes (site_at b s) r) p.block mine_of yours_of mine_least yours_least,
-    inner_same b.mesh (maps_of meshes r) (maps_of others r) (rows_same meshes others h.alike r) (reducing (site_at b s).args) (places_of meshes (site_at b s) r) p.block mine_of yours_of mine_least yours_least,
+    blocks_same b.mesh (maps_of meshes r) (maps_of others r) (rows_same meshes others h.alike r) (reducing (site_at b s).args)
+        (places_of meshes (site_at b s) r) p.block mine_of yours_of mine_least yours_least,
+    inner_same b.mesh (maps_of meshes r) (maps_of others r) (rows_same meshes others h.alike r) (reducing (site_at b s).args)
+        (places_of meshes (site_at b s) r) p.block mine_of yours_of mine_least yours_least,
   )
 
 pub least_colours_are_one : LeastColoursAreOne

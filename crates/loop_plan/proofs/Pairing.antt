@@ -38,7 +38,8 @@ module _ (g : MeshValue) (o : Owners) (h : Halos) (halos : AreHalos g o h) where
     few = (let e : h.ranks ≡ o.ranks = halos.ranks in let f : o.ranks ≤ 64 = owners.few_ranks in omega arith);
     sets = halos.count;
     owners = λ t l. (let x = set_at t l in ap (λ (z : List (Vec (Vec ℕ Global) Global)). length z) x.1 ∙ (x.2.export_count ∙ sym halos.ranks));
-    ranks = λ t s l m. (let x = set_at t l in ap (λ (z : List (Vec (Vec ℕ Global) Global)). length (rows z s)) x.1 ∙ (x.2.export_counts s (let e : h.ranks ≡ o.ranks = halos.ranks in omega arith) ∙ sym halos.ranks));
+    ranks = λ t s l m. (let x = set_at t l in ap (λ (z : List (Vec (Vec ℕ Global) Global)). length (rows z s)) x.1
+        ∙ (x.2.export_counts s (let e : h.ranks ≡ o.ranks = halos.ranks in omega arith) ∙ sym halos.ranks));
   }
 
   module _ (p : Perms) (meshes : List RankMesh) (perms : ArePerms g p) (ranks : AreRankMeshes g o p meshes) (s r t : ℕ) (ls : s < o.ranks) (lr : r < o.ranks) (lt : t < set_count g) where

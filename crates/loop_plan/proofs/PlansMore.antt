@@ -15,7 +15,8 @@ use Rattle.loop_plan.specs.Pairs.{pairs_below}
 use Rattle.loop_plan.specs.Exports.{passes_by_exports}
 use Rattle.loop_plan.specs.ItemPlans.{IsItemPlan, AreItemPlans}
 
-pub plans_more : (b : BoundValue) (h : Halos) (n : ℕ) (plans : List ItemPlan) (v : ItemPlan) → length plans ≡ n → AreItemPlans b h n plans → IsItemPlan b h n (item_plan_of v) → AreItemPlans b h (n + 1) (plans ++ v ∷ [])
+pub plans_more : (b : BoundValue) (h : Halos) (n : ℕ) (plans : List ItemPlan) (v : ItemPlan) → length plans ≡ n → AreItemPlans b h n plans
+    → IsItemPlan b h n (item_plan_of v) → AreItemPlans b h (n + 1) (plans ++ v ∷ [])
 plans_more b h n plans v e a i k l =
     let m : map item_plan_of (plans ++ v ∷ []) ≡ map item_plan_of plans ++ item_plan_of v ∷ [] = map-append item_plan_of plans (v ∷ []) in
     let len : length (map item_plan_of plans) ≡ n = length-map plans item_plan_of ∙ e in
@@ -28,8 +29,10 @@ plans_more b h n plans v e a i k l =
     (cases_eq k n))
 
 -- a plan by the bits before its item
-pub by_bits : (b : BoundValue) (h : Halos) (k dats : ℕ) (bits : List Bool) (v : ItemPlan) → dats ≡ dat_count b.mesh → ((d : ℕ) → d < dat_count b.mesh → slice_index_or bits d false ≡ stale_before b k d)
-    → v.exchange.items ≡ listed dats (λ d. slice_index_or bits d false && item_needs b k d) → v.pairs.items ≡ pairs_below (passes_by_exports b.mesh h v.exchange.items) h.ranks h.ranks → IsItemPlan b h k (item_plan_of v)
+pub by_bits : (b : BoundValue) (h : Halos) (k dats : ℕ) (bits : List Bool) (v : ItemPlan) → dats ≡ dat_count b.mesh
+    → ((d : ℕ) → d < dat_count b.mesh → slice_index_or bits d false ≡ stale_before b k d)
+    → v.exchange.items ≡ listed dats (λ d. slice_index_or bits d false && item_needs b k d)
+        → v.pairs.items ≡ pairs_below (passes_by_exports b.mesh h v.exchange.items) h.ranks h.ranks → IsItemPlan b h k (item_plan_of v)
 by_bits b h k dats bits v e q x p = record {
   exchange = x ∙ (ap (λ z. listed z (λ d. slice_index_or bits d false && item_needs b k d)) e
       ∙ listed_agree (dat_count b.mesh) (λ d. slice_index_or bits d false && item_needs b k d) (exchanged_at b k) (λ d m. ap (λ z. z && item_needs b k d) (q d m)));

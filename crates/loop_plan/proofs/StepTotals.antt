@@ -34,7 +34,8 @@ length_listed p (suc n) =
 length_pairs : (t : ℕ → ℕ → Bool) (n m : ℕ) → length (pairs_below t n m) ≡ sum_below (λ s. tally (t s) n) m
 length_pairs t n zero = refl
 length_pairs t n (suc m) =
-    let a : length (pairs_below t n m ++ map (pair m) (listed n (t m))) ≡ length (pairs_below t n m) + length (map (pair m) (listed n (t m))) = length-append (pairs_below t n m) (map (pair m) (listed n (t m))) in
+    let a : length (pairs_below t n m ++ map (pair m) (listed n (t m))) ≡ length (pairs_below t n m) + length
+        (map (pair m) (listed n (t m))) = length-append (pairs_below t n m) (map (pair m) (listed n (t m))) in
     let b : length (pairs_below t n m) ≡ sum_below (λ s. tally (t s) n) m = length_pairs t n m in
     let c : length (map (pair m) (listed n (t m))) ≡ tally (t m) n = length-map (listed n (t m)) (pair m) ∙ length_listed (t m) n in
     omega arith
@@ -74,7 +75,9 @@ module _ (b : BoundValue) (meshes : List RankMesh) (p : PlanValue) (c : Counts b
       same_sum (λ r. tally (runs o k r) (o.count k r)) (slice_index (site_plan p (loop_at b meshes p k)).places) p.ranks (λ r m. all_run k r)
       ∙ (ap (sum_below (slice_index (site_plan p (loop_at b meshes p k)).places)) (sym (c.places k l f)) ∙ sum_of_list (site_plan p (loop_at b meshes p k)).places)
 
-  item_steps_are : (k : ℕ) → k < length b.trace → (f : Bool) → is_free (item_at b k) ≡ f → cond f (2 * messages o k + 2 * element_runs o k) 1 ≡ cond f (2 * length (item_plan p k).pairs + 2 * sum (site_plan p (loop_at b meshes p k)).places) 1
+  item_steps_are : (k : ℕ) → k < length b.trace → (f : Bool) → is_free (item_at b k) ≡ f
+      → cond f (2 * messages o k + 2 * element_runs o k) 1 ≡ cond f
+      (2 * length (item_plan p k).pairs + 2 * sum (site_plan p (loop_at b meshes p k)).places) 1
   item_steps_are k l true e =
       let x : messages o k ≡ length (item_plan p k).pairs = messages_are k l e in
       let y : element_runs o k ≡ sum (site_plan p (loop_at b meshes p k)).places = runs_are k l e in

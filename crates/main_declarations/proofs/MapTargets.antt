@@ -38,10 +38,12 @@ module _ (t u : ℕ) (r s : BindRefusal) where
   abbrev last : Found
   last = record { turn = MeshCells; token = u; refusal = s }
 
-  by_turn : (v : Turn) (w : ℕ) (q : BindRefusal) → earlier (earlier (Some (record { turn = v; token = w; refusal = q })) ordered) last ≡ earlier (earlier (Some (record { turn = v; token = w; refusal = q })) last) ordered
+  by_turn : (v : Turn) (w : ℕ) (q : BindRefusal) → earlier (earlier (Some (record { turn = v; token = w; refusal = q })) ordered) last ≡
+      earlier (earlier (Some (record { turn = v; token = w; refusal = q })) last) ordered
   by_turn InOrder w q = both (is_before ordered (record { turn = InOrder; token = w; refusal = q }))
     where
-      both : (b : Bool) → earlier (if b then Some ordered else Some (record { turn = InOrder; token = w; refusal = q })) last ≡ (if b then Some ordered else Some (record { turn = InOrder; token = w; refusal = q }))
+      both : (b : Bool) → earlier (if b then Some ordered else Some (record { turn = InOrder; token = w; refusal = q })) last ≡
+          (if b then Some ordered else Some (record { turn = InOrder; token = w; refusal = q }))
       both true = refl
       both false = refl
   by_turn SizeValue w q = refl
@@ -87,7 +89,10 @@ module _ (places : List Pos) (g : MeshValue) (dim : ℕ) (x : Ident) where
   aimed (Some s) (Some t) None p q d e = never (not_in InOrder true x.at (refusal.UnknownEntry (place places x.at)) e)
   aimed (Some s) (Some t) (Some zs) p q d e =
       let w : awaited g (Some s) dim ≡ Some (set_size g s * dim) = ap (λ (b : Bool). if b then Some (set_size g s * dim) else None) d in
-      let f : nat_eq (length zs) (set_size g s * dim) ≡ true = not-false (nat_eq (length zs) (set_size g s * dim)) (not_in InOrder (not (nat_eq (length zs) (set_size g s * dim))) x.at (refusal.DimMismatch (place places x.at)) (subst (λ o. data_found places (Some zs) o x ≡ []) w e)) in
+      let f : nat_eq (length zs) (set_size g s * dim) ≡ true =
+          not-false (nat_eq (length zs) (set_size g s * dim))
+          (not_in InOrder (not (nat_eq (length zs) (set_size g s * dim))) x.at (refusal.DimMismatch (place places x.at))
+          (subst (λ o. data_found places (Some zs) o x ≡ []) w e)) in
       ap (λ o. target_found places g dim x (Some zs) o (Some t)) w
       ∙ ap (λ (b : Bool). if b then stray_found places (map_count g) dim x (first_stray (set_size g t) 0 zs) else []) f
 
@@ -111,18 +116,22 @@ module _ (places : List Pos) (entries : List Named) (k : Declared) (nested : Boo
   awaits = awaited k.mesh (set_of (means k.names from.name)) (count_of n)
 
   -- the targets may come last
-  pub once : first_of (map_decl_found places entries k nested t from to n x) ≡ least_from (first_of (shape_decl_found places entries k nested t from to n x)) (targets_found places entries k from to n x)
+  pub once : first_of (map_decl_found places entries k nested t from to n x) ≡ least_from
+      (first_of (shape_decl_found places entries k nested t from to n x)) (targets_found places entries k from to n x)
   once =
       let p = place_found places k nested t ++ found_over InOrder max_maps (suc (map_count k.mesh)) t counted.Maps in
       let m = set_found places k from ++ set_found places k to ++ dim_found places n ++ data_found places given awaits x in
       let y = targets_found places entries k from to n x in
       let c = cells_found places t (k.filled + length (or_none given)) in
       let o = least_from (least_from None p) m in
-      let whole : first_of (p ++ (m ++ y ++ c)) ≡ least_from (least_from o y) c = least_append None p (m ++ y ++ c) ∙ least_append (least_from None p) (m ++ y) c ∙ ap (λ z. least_from z c) (least_append (least_from None p) m y) in
+      let whole : first_of (p ++ (m ++ y ++ c)) ≡ least_from (least_from o y) c = least_append None p (m ++ y ++ c)
+          ∙ least_append (least_from None p) (m ++ y) c ∙ ap (λ z. least_from z c) (least_append (least_from None p) m y) in
       let shape : first_of (p ++ (m ++ c)) ≡ least_from o c = least_append None p (m ++ c) ∙ least_append (least_from None p) m c in
       let a = target_in_order places k.mesh (count_of n) x given awaits (set_of (means k.names to.name)) in
       let size = k.filled + length (or_none given) in
-      let s : least_from (least_from o y) c ≡ least_from (least_from o c) y = subst (λ z. least_from (least_from o z) c ≡ least_from (least_from o c) z) (sym a.2) (swap x.at t a.1 (refusal.Limit counted.MeshCells size) o a.0 (nat_lt max_cells size)) in
+      let s : least_from (least_from o y) c ≡ least_from (least_from o c) y =
+          subst (λ z. least_from (least_from o z) c ≡ least_from (least_from o c) z) (sym a.2)
+          (swap x.at t a.1 (refusal.Limit counted.MeshCells size) o a.0 (nat_lt max_cells size)) in
       whole ∙ s ∙ ap (λ z. least_from z y) (sym shape)
 
   -- where nothing else is wrong, each value has its set
@@ -148,13 +157,15 @@ module _ (places : List Pos) (entries : List Named) (k : Declared) (nested : Boo
       (right_nil (a ++ b ++ d) e m)
 
   -- nothing else is wrong
-  pub only_strays : first_of (shape_decl_found places entries k nested t from to n x) ≡ None → first_of (map_decl_found places entries k nested t from to n x) ≡ first_of (strays_found places entries k to n x)
+  pub only_strays : first_of (shape_decl_found places entries k nested t from to n x) ≡ None
+      → first_of (map_decl_found places entries k nested t from to n x) ≡ first_of (strays_found places entries k to n x)
   only_strays none = once ∙ ap (λ o. least_from o (targets_found places entries k from to n x)) none ∙ ap first_of (targets_are_strays none)
 
   -- something else is wrong
   pub more_than_strays : (f : Found) → first_of (shape_decl_found places entries k nested t from to n x) ≡ Some f
       → first_of (map_decl_found places entries k nested t from to n x) ≡ option_or (least_from (Some f) (targets_found places entries k from to n x)) (first_of (strays_found places entries k to n x))
-  more_than_strays f some = once ∙ ap (λ o. least_from o (targets_found places entries k from to n x)) some ∙ some_or f (targets_found places entries k from to n x) (first_of (strays_found places entries k to n x))
+  more_than_strays f some = once ∙ ap (λ o. least_from o (targets_found places entries k from to n x)) some
+      ∙ some_or f (targets_found places entries k from to n x) (first_of (strays_found places entries k to n x))
 
 -- ---- what adding the map answers
 

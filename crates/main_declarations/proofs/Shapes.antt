@@ -55,7 +55,9 @@ set_there k x h = pick (named_in k.names.own x) (named_in k.names.file x) (All-l
 
 pub dim_fits : (places : List Pos) (n : NumberLiteral) → dim_found places n ≡ [] → (0 < count_of n) × (count_of n ≤ max_dim)
 dim_fits places n e = (
-  positive (count_of n) (not_if places (nat_eq (count_of n) 0) n.at refusal.DimMismatch (left_nil (found_if places (nat_eq (count_of n) 0) n.at refusal.DimMismatch) (found_over InOrder max_dim (count_of n) n.at counted.Dim) e)),
+  positive (count_of n) (not_if places (nat_eq (count_of n) 0) n.at refusal.DimMismatch
+      (left_nil (found_if places (nat_eq (count_of n) 0) n.at refusal.DimMismatch)
+      (found_over InOrder max_dim (count_of n) n.at counted.Dim) e)),
   not_over InOrder max_dim (count_of n) n.at counted.Dim (right_nil (found_if places (nat_eq (count_of n) 0) n.at refusal.DimMismatch) (found_over InOrder max_dim (count_of n) n.at counted.Dim) e),
 )
 

@@ -11,5 +11,6 @@ stray_go size i zs k z h g t = rw (drop_here zs k z h g, t) (ap (λ n. first_str
 pub stray_stops : (size i : ℕ) (zs : List ℤ) (k : ℕ) (z : ℤ) → k < length zs → z ≡ get_or zs k z → is_element size z ≡ false → first_stray size i (drop k zs) ≡ Some i
 stray_stops size i zs k z h g t = rw (drop_here zs k z h g, t) refl
 
-pub stray_next : (size i : ℕ) (zs : List ℤ) (k : ℕ) (d : ℤ) (b : Bool) → k < length zs → b ≡ is_element size (get_or zs k d) → b ≡ true → first_stray size (i + 1) (drop (k + 1) zs) ≡ first_stray size i (drop k zs)
+pub stray_next : (size i : ℕ) (zs : List ℤ) (k : ℕ) (d : ℤ) (b : Bool) → k < length zs → b ≡ is_element size (get_or zs k d) → b ≡ true
+    → first_stray size (i + 1) (drop (k + 1) zs) ≡ first_stray size i (drop k zs)
 stray_next size i zs k d b h e t = stray_go size i zs k (get_or zs k d) h (get_or_default zs k d (get_or zs k d) h) (sym e ∙ t)

@@ -18,7 +18,8 @@ constant_past places [] (suc i) from h = refl
 constant_past places (v ∷ vs) zero from h = absurd (omega arith)
 constant_past places (v ∷ vs) (suc i) from h = ap (λ z. var_of v ∷ z) (constant_past places vs i from (omega arith))
 
-pub constant_set : (places : List Pos) (vs : List Var) (i : ℕ) (from : Option ℕ) (x : Var) → i < length vs → x ≡ get_or vs i x → map var_of (set vs i (record x { constant = from })) ≡ with_constant places i from (map var_of vs)
+pub constant_set : (places : List Pos) (vs : List Var) (i : ℕ) (from : Option ℕ) (x : Var) → i < length vs → x ≡ get_or vs i x
+    → map var_of (set vs i (record x { constant = from })) ≡ with_constant places i from (map var_of vs)
 constant_set places [] zero from x h e = absurd (omega arith)
 constant_set places [] (suc i) from x h e = absurd (omega arith)
 constant_set places (v ∷ vs) zero from x h e = rw e refl

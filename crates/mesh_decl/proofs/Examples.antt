@@ -8,7 +8,9 @@ abbrev small : MeshValue
 small = record {
   sets = (record { name = codes "nodes"; size = 3 }) ∷ (record { name = codes "s"; size = 0 }) ∷ [];
   maps = [];
-  dats = (record { name = codes "r"; set = 0; dim = 1; values = pos 0 ∷ pos 0 ∷ pos 0 ∷ [] }) ∷ (record { name = codes "a"; set = 1; dim = 1; values = [] }) ∷ (record { name = codes "q"; set = 0; dim = 2; values = pos 0 ∷ pos 0 ∷ pos 0 ∷ pos 0 ∷ pos 0 ∷ pos 0 ∷ [] }) ∷ [];
+  dats = (record { name = codes "r"; set = 0; dim = 1; values = pos 0 ∷ pos 0 ∷ pos 0 ∷ [] })
+      ∷ (record { name = codes "a"; set = 1; dim = 1; values = [] })
+      ∷ (record { name = codes "q"; set = 0; dim = 2; values = pos 0 ∷ pos 0 ∷ pos 0 ∷ pos 0 ∷ pos 0 ∷ pos 0 ∷ [] }) ∷ [];
 }
 
 pub one_value_a_line : printed_dat (codes "r.txt") small 0 (pos 1 ∷ pos 1 ∷ negsuc 1 ∷ []) ≡ codes "r.txt: r nodes 3 1\n1\n1\n-2\n"

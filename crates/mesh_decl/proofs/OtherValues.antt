@@ -17,7 +17,8 @@ values_count [] d zs = refl
 values_count (y ∷ ys) zero zs = refl
 values_count (y ∷ ys) (suc d) zs = ap suc (values_count ys d zs)
 
-dats_kept : (sets : List SetDecl) (xs : List DatDecl) (d : ℕ) (zs : List ℤ) → length zs ≡ length (get_or (map (λ (e : DatDecl). e.values) xs) d []) → All (IsDat sets) xs → All (IsDat sets) (with_values xs d zs)
+dats_kept : (sets : List SetDecl) (xs : List DatDecl) (d : ℕ) (zs : List ℤ)
+    → length zs ≡ length (get_or (map (λ (e : DatDecl). e.values) xs) d []) → All (IsDat sets) xs → All (IsDat sets) (with_values xs d zs)
 dats_kept sets [] d zs e h = h
 dats_kept sets (y ∷ ys) zero zs e h =
     let i : IsDat sets y = h 0 y (omega arith) in

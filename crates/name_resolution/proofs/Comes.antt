@@ -52,7 +52,8 @@ refusals_have_causes p h = rule_cause p.places h.breach.rule h.breach.at h.refus
 
 -- ---- the kernels and constants
 
-pub some_kernels : ((bytes : List ℕ) (tokens : List Token) → Lexes bytes (Ok tokens) → length tokens ≤ length bytes) → (bytes : List ℕ) (p : ProgramTree) → Reads bytes p → length bytes < 2 ^ 63 → (r : Resolved) × (resolved_of r ≡ resolved p)
+pub some_kernels : ((bytes : List ℕ) (tokens : List Token) → Lexes bytes (Ok tokens) → length tokens ≤ length bytes)
+    → (bytes : List ℕ) (p : ProgramTree) → Reads bytes p → length bytes < 2 ^ 63 → (r : Resolved) × (resolved_of r ≡ resolved p)
 some_kernels few bytes p reads small =
     let tokens = few bytes reads.tokens reads.lexed in
     let kinds = ap length reads.prints.kinds in

@@ -108,7 +108,8 @@ module _ (may : ℕ → Type 0) (places : List Pos) (file : Names) (file_may : A
         let b = none_of_both (repeated g.name own) (stmt_breaches file (with_counter own next g) (behind next 1) x) e in
         (m next (omega arith), stmt_stores (with_counter own next g) (behind next 1) x (omega arith) (from_behind may next 1 l m) (declared_are (May may) g.name.name _ own h tt) b.1)
 
-    pub stmts_store : (own : Names) (next : ℕ) (ss : StmtTrees) → next ≤ 1024 → From may next → AllAre (May may) own → stmts_breaches file own next ss ≡ [] → RowStoresIn may (steps places file own next ss)
+    pub stmts_store : (own : Names) (next : ℕ) (ss : StmtTrees) → next ≤ 1024 → From may next → AllAre (May may) own
+        → stmts_breaches file own next ss ≡ [] → RowStoresIn may (steps places file own next ss)
     stmts_store own next tree.NoStmt l m h e = tt
     stmts_store own next (tree.MoreStmt x xs) l m h e =
         let b = none_of_both (stmt_breaches file own next x) (stmts_breaches file (after_stmt own next x) (behind next (cells x)) xs) e in
@@ -160,11 +161,13 @@ module _ (p c : ℕ) (places : List Pos) (file : Names) (of_file : AllAre IsOfFi
         let b = none_of_both (repeated g.name own) (stmt_breaches file (with_counter own next g) (behind next 1) x) e in
         let apart : AllAre (May (λ j. j ≢ next)) own = all_as (Fit p next c) (May (λ j. j ≢ next)) (λ d u. fit_apart p next c d.sort d.of_file d.is_constant d.from d.count u) own h in
         let of_none : AllAre (May (λ j. j ≢ next)) file = all_as IsOfFile (May (λ j. j ≢ next)) (λ d u. file_may (λ j. j ≢ next) d.sort d.of_file d.from d.count u) file of_file in (
-          stmt_stores (λ j. j ≢ next) places file of_none (with_counter own next g) (behind next 1) x (omega arith) (λ j a. omega arith) (declared_are (May (λ j. j ≢ next)) g.name.name _ own apart tt) b.1,
+          stmt_stores (λ j. j ≢ next) places file of_none (with_counter own next g) (behind next 1) x (omega arith) (λ j a. omega arith)
+              (declared_are (May (λ j. j ≢ next)) g.name.name _ own apart tt) b.1,
           stmt_counts (with_counter own next g) (behind next 1) x (omega arith) (counter_fits p c own next g (omega arith) h) b.1,
         )
 
-    pub stmts_count : (own : Names) (next : ℕ) (ss : StmtTrees) → next + cells_of_all ss ≤ 1024 → AllAre (Fit p next c) own → stmts_breaches file own next ss ≡ [] → RowCountersIn (steps places file own next ss)
+    pub stmts_count : (own : Names) (next : ℕ) (ss : StmtTrees) → next + cells_of_all ss ≤ 1024 → AllAre (Fit p next c) own
+        → stmts_breaches file own next ss ≡ [] → RowCountersIn (steps places file own next ss)
     stmts_count own next tree.NoStmt l h e = tt
     stmts_count own next (tree.MoreStmt x xs) l h e =
         let b = none_of_both (stmt_breaches file own next x) (stmts_breaches file (after_stmt own next x) (behind next (cells x)) xs) e in

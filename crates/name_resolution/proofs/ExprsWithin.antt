@@ -50,7 +50,9 @@ module _ (p n c : ℕ) (places : List Pos) (s : Scope) (file_fits : AllAre (Fit 
 -- ---- targets
 
 -- a target without an index is a variable of the kernel
-scalar_target : (P : Sort → Bool → Bool → ℕ → ℕ → Type 0) (R : ℕ → Type 0) → ((k : Bool) (from count : ℕ) → P sort.Scalar false k from count → R from) → (at : ℕ) (s : Sort) (k0 f k : Bool) (from count : ℕ) → P s f k from count → Allowed (writing true false false) (mk at s k0 f k from count) → R from
+scalar_target : (P : Sort → Bool → Bool → ℕ → ℕ → Type 0) (R : ℕ → Type 0)
+    → ((k : Bool) (from count : ℕ) → P sort.Scalar false k from count → R from) → (at : ℕ) (s : Sort) (k0 f k : Bool) (from count : ℕ)
+    → P s f k from count → Allowed (writing true false false) (mk at s k0 f k from count) → R from
 scalar_target P R r at sort.Extern k0 f k from count h a = let e = a.reach in cc
 scalar_target P R r at sort.ExternArray k0 f k from count h a = let e = a.value in cc
 scalar_target P R r at sort.Kernel k0 f k from count h a = let e = a.value in cc
@@ -65,7 +67,9 @@ scalar_target P R r at sort.Counter k0 f k from count h a = let e = a.counter in
 
 module _ (p n c : ℕ) (may : ℕ → Type 0) (form : ElementForm) (i : RExprTree) (q : Pos) (op : AssignOp) (op_at : Pos) (v : RExprTree) where
   -- a target with an index is an array of the kernel or a parameter
-  element_target : (at : ℕ) (s : Sort) (k0 f k : Bool) (from count : ℕ) → FitAs p n c s f k from count → FormIn form i → ExprIn p n c i → ExprIn p n c v → Allowed (writing true false true) (mk at s k0 f k from count) → StmtIn p n c (set_element (mk at s k0 f k from count) form i q op op_at v)
+  element_target : (at : ℕ) (s : Sort) (k0 f k : Bool) (from count : ℕ) → FitAs p n c s f k from count → FormIn form i → ExprIn p n c i
+      → ExprIn p n c v → Allowed (writing true false true) (mk at s k0 f k from count)
+      → StmtIn p n c (set_element (mk at s k0 f k from count) form i q op op_at v)
   element_target at sort.Extern k0 f k from count h fi hi hv a = let e = a.index in cc
   element_target at sort.ExternArray k0 f k from count h fi hi hv a = let e = a.value in cc
   element_target at sort.Kernel k0 f k from count h fi hi hv a = let e = a.value in cc
@@ -78,7 +82,9 @@ module _ (p n c : ℕ) (may : ℕ → Type 0) (form : ElementForm) (i : RExprTre
   element_target at sort.Param k0 f k from count h fi hi hv a = (h, fi, hi, hv)
   element_target at sort.Counter k0 f k from count h fi hi hv a = let e = a.index in cc
 
-  element_store : (at : ℕ) (s : Sort) (k0 f k : Bool) (from count : ℕ) → MayAs may s f from count → Allowed (writing true false true) (mk at s k0 f k from count) → StoresIn may (set_element (mk at s k0 f k from count) form i q op op_at v)
+  element_store : (at : ℕ) (s : Sort) (k0 f k : Bool) (from count : ℕ) → MayAs may s f from count
+      → Allowed (writing true false true) (mk at s k0 f k from count)
+      → StoresIn may (set_element (mk at s k0 f k from count) form i q op op_at v)
   element_store at sort.Extern k0 f k from count h a = let e = a.index in cc
   element_store at sort.ExternArray k0 f k from count h a = let e = a.value in cc
   element_store at sort.Kernel k0 f k from count h a = let e = a.value in cc
@@ -91,7 +97,8 @@ module _ (p n c : ℕ) (may : ℕ → Type 0) (form : ElementForm) (i : RExprTre
   element_store at sort.Param k0 f k from count h a = tt
   element_store at sort.Counter k0 f k from count h a = let e = a.index in cc
 
-  set_in : (m : Option Decl) (t : ℕ) → IfSome m (Fit p n c) → FormIn form i → ExprIn p n c i → ExprIn p n c v → use_breaches (writing true false true) t m ≡ [] → StmtIn p n c (set_element (decl_or m) form i q op op_at v)
+  set_in : (m : Option Decl) (t : ℕ) → IfSome m (Fit p n c) → FormIn form i → ExprIn p n c i → ExprIn p n c v
+      → use_breaches (writing true false true) t m ≡ [] → StmtIn p n c (set_element (decl_or m) form i q op op_at v)
   set_in None t h fi hi hv e = cc
   set_in (Some d) t h fi hi hv e = element_target d.at d.sort d.is_const d.of_file d.is_constant d.from d.count h fi hi hv (allowed (writing true false true) t d e)
 
@@ -101,11 +108,13 @@ module _ (p n c : ℕ) (may : ℕ → Type 0) (form : ElementForm) (i : RExprTre
 
 scalar_in : (p n c : ℕ) (m : Option Decl) (t : ℕ) → IfSome m (Fit p n c) → use_breaches (writing true false false) t m ≡ [] → (decl_or m).from < n
 scalar_in p n c None t h e = cc
-scalar_in p n c (Some d) t h e = scalar_target (FitAs p n c) (λ j. j < n) (λ k from count u. u) d.at d.sort d.is_const d.of_file d.is_constant d.from d.count h (allowed (writing true false false) t d e)
+scalar_in p n c (Some d) t h e = scalar_target (FitAs p n c) (λ j. j < n) (λ k from count u. u) d.at d.sort d.is_const d.of_file
+    d.is_constant d.from d.count h (allowed (writing true false false) t d e)
 
 scalar_stores : (may : ℕ → Type 0) (m : Option Decl) (t : ℕ) → IfSome m (May may) → use_breaches (writing true false false) t m ≡ [] → may (decl_or m).from
 scalar_stores may None t h e = cc
-scalar_stores may (Some d) t h e = scalar_target (λ s f k from count. MayAs may s f from count) may (λ k from count u. u) d.at d.sort d.is_const d.of_file d.is_constant d.from d.count h (allowed (writing true false false) t d e)
+scalar_stores may (Some d) t h e = scalar_target (λ s f k from count. MayAs may s f from count) may (λ k from count u. u) d.at d.sort
+    d.is_const d.of_file d.is_constant d.from d.count h (allowed (writing true false false) t d e)
 
 -- ---- assignments
 
@@ -115,9 +124,13 @@ module _ (p n c : ℕ) (places : List Pos) (s : Scope) (file_fits : AllAre (Fit 
       (scalar_in p n c (means s x.name) x.at (meant (Fit p n c) s x.name file_fits own_fits) h, expr_in p n c places s file_fits own_fits a.value v)
   assigned_in a (tree.Element x e) h v =
       let b = none_of_both (use_breaches (writing true false true) x.at (means s x.name)) (expr_breaches true s e) h in
-      set_in p n c (λ j. Unit {0}) form.Index (value places s e) (pos_of places x.at) a.op (pos_of places a.at) (value places s a.value) (means s x.name) x.at (meant (Fit p n c) s x.name file_fits own_fits) tt (expr_in p n c places s file_fits own_fits e b.1) (expr_in p n c places s file_fits own_fits a.value v) b.0
+      set_in p n c (λ j. Unit {0}) form.Index (value places s e) (pos_of places x.at) a.op (pos_of places a.at) (value places s a.value)
+          (means s x.name) x.at (meant (Fit p n c) s x.name file_fits own_fits) tt (expr_in p n c places s file_fits own_fits e b.1)
+          (expr_in p n c places s file_fits own_fits a.value v) b.0
   assigned_in a (tree.Target at x) h v =
-      set_in p n c (λ j. Unit {0}) form.Deref (Number (pos 0)) (pos_of places x.at) a.op (pos_of places a.at) (value places s a.value) (means s x.name) x.at (meant (Fit p n c) s x.name file_fits own_fits) refl tt (expr_in p n c places s file_fits own_fits a.value v) h
+      set_in p n c (λ j. Unit {0}) form.Deref (Number (pos 0)) (pos_of places x.at) a.op (pos_of places a.at) (value places s a.value)
+          (means s x.name) x.at (meant (Fit p n c) s x.name file_fits own_fits) refl tt
+          (expr_in p n c places s file_fits own_fits a.value v) h
 
 module _ (may : ℕ → Type 0) (places : List Pos) (s : Scope) (file_may : AllAre (May may) s.file) (own_may : AllAre (May may) s.own) where
   pub assigned_stores : (a : AssignmentTree) (x : PlaceTree) → place_breaches true s false x ≡ [] → StoresIn may (assigned places s a x)

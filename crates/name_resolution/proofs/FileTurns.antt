@@ -18,27 +18,40 @@ use Rattle.name_resolution.proofs.Firsts.{least_append}
 use Rattle.lemmas.proofs.Lists.{drop_here}
 
 module _ (named : List (List ℕ)) where
-  pub variables_names : (k : Bool) (file file' : Names) (ds : List Declr) (i : ℕ) (d : Declr) → i < length ds → d ≡ get_or ds i d → file' ≡ with_variable named k file (declr_of d) → after_variables named k file' (map declr_of (drop (i + 1) ds)) ≡ after_variables named k file (map declr_of (drop i ds))
+  pub variables_names : (k : Bool) (file file' : Names) (ds : List Declr) (i : ℕ) (d : Declr) → i < length ds → d ≡ get_or ds i d
+      → file' ≡ with_variable named k file (declr_of d) → after_variables named k file' (map declr_of (drop (i + 1) ds)) ≡ after_variables
+      named k file (map declr_of (drop i ds))
   variables_names k file file' ds i d h g ho = rw (ho, drop_here ds i d h g) refl
 
-  pub variables_first : (k : Bool) (file file' : Names) (ds : List Declr) (i : ℕ) (d : Declr) (f f' : Option Breach) → i < length ds → d ≡ get_or ds i d → f' ≡ least_from f (declr_breaches (scope file []) (declr_of d) ++ repeated (declr_name (declr_of d)) file) → file' ≡ with_variable named k file (declr_of d) → least_from f' (variables_breaches named k file' (map declr_of (drop (i + 1) ds))) ≡ least_from f (variables_breaches named k file (map declr_of (drop i ds)))
+  pub variables_first : (k : Bool) (file file' : Names) (ds : List Declr) (i : ℕ) (d : Declr) (f f' : Option Breach) → i < length ds
+      → d ≡ get_or ds i d → f' ≡ least_from f (declr_breaches (scope file []) (declr_of d) ++ repeated (declr_name (declr_of d)) file)
+      → file' ≡ with_variable named k file (declr_of d) → least_from f' (variables_breaches named k file' (map declr_of (drop (i + 1) ds)))
+      ≡ least_from f (variables_breaches named k file (map declr_of (drop i ds)))
   variables_first k file file' ds i d f f' h g w ho =
       rw (ho, drop_here ds i d h g, w) (sym (least_append f (declr_breaches (scope file []) (declr_of d) ++ repeated (declr_name (declr_of d)) file) _))
 
-  pub tops_names : (file file' : Names) (ts : List Top) (i : ℕ) (t : Top) → i < length ts → t ≡ get_or ts i t → file' ≡ after_top named file (top_of t) → after_tops named file' (map top_of (drop (i + 1) ts)) ≡ after_tops named file (map top_of (drop i ts))
+  pub tops_names : (file file' : Names) (ts : List Top) (i : ℕ) (t : Top) → i < length ts → t ≡ get_or ts i t
+      → file' ≡ after_top named file (top_of t) → after_tops named file' (map top_of (drop (i + 1) ts)) ≡ after_tops named file
+      (map top_of (drop i ts))
   tops_names file file' ts i t h g ho = rw (ho, drop_here ts i t h g) refl
 
-  pub tops_first : (file file' : Names) (ts : List Top) (i : ℕ) (t : Top) (f f' : Option Breach) → i < length ts → t ≡ get_or ts i t → f' ≡ least_from f (top_breaches named file (top_of t)) → file' ≡ after_top named file (top_of t) → least_from f' (tops_breaches named file' (map top_of (drop (i + 1) ts))) ≡ least_from f (tops_breaches named file (map top_of (drop i ts)))
+  pub tops_first : (file file' : Names) (ts : List Top) (i : ℕ) (t : Top) (f f' : Option Breach) → i < length ts → t ≡ get_or ts i t
+      → f' ≡ least_from f (top_breaches named file (top_of t)) → file' ≡ after_top named file (top_of t)
+      → least_from f' (tops_breaches named file' (map top_of (drop (i + 1) ts))) ≡ least_from f
+      (tops_breaches named file (map top_of (drop i ts)))
   tops_first file file' ts i t f f' h g w ho =
       rw (ho, drop_here ts i t h g, w) (sym (least_append f (top_breaches named file (top_of t)) _))
 
-  pub tops_kernels : (places : List Pos) (file file' : Names) (ts : List Top) (i : ℕ) (t : Top) (ks ks' : List RKernelTree) → i < length ts → t ≡ get_or ts i t → ks' ≡ ks ++ kernels_of named places file (top_of t) → file' ≡ after_top named file (top_of t) → ks' ++ kernels named places file' (map top_of (drop (i + 1) ts)) ≡ ks ++ kernels named places file (map top_of (drop i ts))
+  pub tops_kernels : (places : List Pos) (file file' : Names) (ts : List Top) (i : ℕ) (t : Top) (ks ks' : List RKernelTree) → i < length ts
+      → t ≡ get_or ts i t → ks' ≡ ks ++ kernels_of named places file (top_of t) → file' ≡ after_top named file (top_of t)
+      → ks' ++ kernels named places file' (map top_of (drop (i + 1) ts)) ≡ ks ++ kernels named places file (map top_of (drop i ts))
   tops_kernels places file file' ts i t ks ks' h g w ho =
       rw (ho, drop_here ts i t h g, w) (append_assoc ks (kernels_of named places file (top_of t)) _)
 
 -- ---- constants
 
-pub constants_turn : (names : Names) (i : ℕ) (x : List ℕ) (d : Decl) (cs cs' : List ConstDecl) → slice_get names i ≡ Some (x, d) → cs' ≡ cs ++ constant_of x d → cs' ++ constants (drop (i + 1) names) ≡ cs ++ constants (drop i names)
+pub constants_turn : (names : Names) (i : ℕ) (x : List ℕ) (d : Decl) (cs cs' : List ConstDecl) → slice_get names i ≡ Some (x, d)
+    → cs' ≡ cs ++ constant_of x d → cs' ++ constants (drop (i + 1) names) ≡ cs ++ constants (drop i names)
 constants_turn [] i x d cs cs' h w = cc
 constants_turn (n ∷ ns) zero x d cs cs' h w =
     let e : n ≡ (x, d) = cc in

@@ -103,7 +103,8 @@ module _ (p n c : ℕ) where
   abbrev pub Fit : Decl → Type 0
   Fit d = FitAs d.sort d.of_file d.is_constant d.from d.count
 
-  read_single : (at : ℕ) (s : Sort) (k0 f k : Bool) (from count : ℕ) → FitAs s f k from count → Allowed (reading true false) (mk at s k0 f k from count) → ExprIn p n c (single (mk at s k0 f k from count))
+  read_single : (at : ℕ) (s : Sort) (k0 f k : Bool) (from count : ℕ) → FitAs s f k from count
+      → Allowed (reading true false) (mk at s k0 f k from count) → ExprIn p n c (single (mk at s k0 f k from count))
   read_single at sort.Extern k0 f k from count h a = let e = a.reach in cc
   read_single at sort.ExternArray k0 f k from count h a = let e = a.value in cc
   read_single at sort.Kernel k0 f k from count h a = let e = a.value in cc
@@ -118,7 +119,9 @@ module _ (p n c : ℕ) where
   read_single at sort.Counter k0 false k from count h a = h.1
   read_single at sort.Counter k0 true k from count h a = let e = h.0 in cc
 
-  read_element : (at : ℕ) (s : Sort) (k0 f k : Bool) (from count : ℕ) (form : ElementForm) (i : RExprTree) (q : Pos) → FitAs s f k from count → FormIn form i → ExprIn p n c i → Allowed (reading true true) (mk at s k0 f k from count) → ExprIn p n c (element (mk at s k0 f k from count) form i q)
+  read_element : (at : ℕ) (s : Sort) (k0 f k : Bool) (from count : ℕ) (form : ElementForm) (i : RExprTree) (q : Pos)
+      → FitAs s f k from count → FormIn form i → ExprIn p n c i → Allowed (reading true true) (mk at s k0 f k from count)
+      → ExprIn p n c (element (mk at s k0 f k from count) form i q)
   read_element at sort.Extern k0 f k from count form i q h fi hi a = let e = a.index in cc
   read_element at sort.ExternArray k0 f k from count form i q h fi hi a = let e = a.value in cc
   read_element at sort.Kernel k0 f k from count form i q h fi hi a = let e = a.value in cc
@@ -136,6 +139,7 @@ module _ (p n c : ℕ) where
   single_in None t h e = cc
   single_in (Some d) t h e = read_single d.at d.sort d.is_const d.of_file d.is_constant d.from d.count h (allowed (reading true false) t d e)
 
-  pub element_in : (m : Option Decl) (t : ℕ) (form : ElementForm) (i : RExprTree) (q : Pos) → IfSome m Fit → FormIn form i → ExprIn p n c i → use_breaches (reading true true) t m ≡ [] → ExprIn p n c (element (decl_or m) form i q)
+  pub element_in : (m : Option Decl) (t : ℕ) (form : ElementForm) (i : RExprTree) (q : Pos) → IfSome m Fit → FormIn form i → ExprIn p n c i
+      → use_breaches (reading true true) t m ≡ [] → ExprIn p n c (element (decl_or m) form i q)
   element_in None t form i q h fi hi e = cc
   element_in (Some d) t form i q h fi hi e = read_element d.at d.sort d.is_const d.of_file d.is_constant d.from d.count form i q h fi hi (allowed (reading true true) t d e)

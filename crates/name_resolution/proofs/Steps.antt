@@ -122,31 +122,52 @@ behind_low n a = omega arith
 -- ---- turns
 
 module _ (places : List Pos) (file : Names) where
-  pub declrs_turn : (own own' : Names) (n n' : ℕ) (ds : List Declr) (i : ℕ) (d : Declr) (xs ys : List RStmt) (x : RStmt) → i < length ds → d ≡ get_or ds i d → rstmt_of x ≡ declr_step places file own n (declr_of d) → own' ≡ after_declr own n (declr_of d) → n' ≡ behind n (declr_cells (declr_of d)) → ys ≡ xs ++ x ∷ [] → joined (rstmts_of ys) (declrs_steps places file own' n' (map declr_of (drop (i + 1) ds))) ≡ joined (rstmts_of xs) (declrs_steps places file own n (map declr_of (drop i ds)))
+  pub declrs_turn : (own own' : Names) (n n' : ℕ) (ds : List Declr) (i : ℕ) (d : Declr) (xs ys : List RStmt) (x : RStmt) → i < length ds
+      → d ≡ get_or ds i d → rstmt_of x ≡ declr_step places file own n (declr_of d) → own' ≡ after_declr own n (declr_of d)
+      → n' ≡ behind n (declr_cells (declr_of d)) → ys ≡ xs ++ x ∷ []
+      → joined (rstmts_of ys) (declrs_steps places file own' n' (map declr_of (drop (i + 1) ds))) ≡ joined (rstmts_of xs)
+      (declrs_steps places file own n (map declr_of (drop i ds)))
   declrs_turn own own' n n' ds i d xs ys x h g w ho hn hy =
       rw (ho, hn, hy, drop_here ds i d h g, joined_push xs x, w) refl
 
-  pub steps_turn : (own own' : Names) (n n' : ℕ) (ds : List Stmt) (i : ℕ) (d : Stmt) (xs ys : List RStmt) (x : RStmt) → i < length ds → d ≡ get_or ds i d → rstmt_of x ≡ step places file own n (stmt_of d) → own' ≡ after_stmt own n (stmt_of d) → n' ≡ behind n (cells (stmt_of d)) → ys ≡ xs ++ x ∷ [] → joined (rstmts_of ys) (steps places file own' n' (stmts_of (drop (i + 1) ds))) ≡ joined (rstmts_of xs) (steps places file own n (stmts_of (drop i ds)))
+  pub steps_turn : (own own' : Names) (n n' : ℕ) (ds : List Stmt) (i : ℕ) (d : Stmt) (xs ys : List RStmt) (x : RStmt) → i < length ds
+      → d ≡ get_or ds i d → rstmt_of x ≡ step places file own n (stmt_of d) → own' ≡ after_stmt own n (stmt_of d)
+      → n' ≡ behind n (cells (stmt_of d)) → ys ≡ xs ++ x ∷ []
+      → joined (rstmts_of ys) (steps places file own' n' (stmts_of (drop (i + 1) ds))) ≡ joined (rstmts_of xs)
+      (steps places file own n (stmts_of (drop i ds)))
   steps_turn own own' n n' ds i d xs ys x h g w ho hn hy =
       rw (ho, hn, hy, drop_here ds i d h g, joined_push xs x, w) refl
 
 module _ (file : Names) where
-  pub declrs_first : (own own' : Names) (n n' : ℕ) (ds : List Declr) (i : ℕ) (d : Declr) (f f' : Option Breach) → i < length ds → d ≡ get_or ds i d → f' ≡ least_from f (declr_breaches file own (declr_of d)) → own' ≡ after_declr own n (declr_of d) → n' ≡ behind n (declr_cells (declr_of d)) → least_from f' (declrs_breaches file own' n' (map declr_of (drop (i + 1) ds))) ≡ least_from f (declrs_breaches file own n (map declr_of (drop i ds)))
+  pub declrs_first : (own own' : Names) (n n' : ℕ) (ds : List Declr) (i : ℕ) (d : Declr) (f f' : Option Breach) → i < length ds
+      → d ≡ get_or ds i d → f' ≡ least_from f (declr_breaches file own (declr_of d)) → own' ≡ after_declr own n (declr_of d)
+      → n' ≡ behind n (declr_cells (declr_of d)) → least_from f' (declrs_breaches file own' n' (map declr_of (drop (i + 1) ds))) ≡
+      least_from f (declrs_breaches file own n (map declr_of (drop i ds)))
   declrs_first own own' n n' ds i d f f' h g w ho hn =
       rw (ho, hn, drop_here ds i d h g, w) (sym (least_append f (declr_breaches file own (declr_of d)) _))
 
-  pub steps_first : (own own' : Names) (n n' : ℕ) (ds : List Stmt) (i : ℕ) (d : Stmt) (f f' : Option Breach) → i < length ds → d ≡ get_or ds i d → f' ≡ least_from f (stmt_breaches file own n (stmt_of d)) → own' ≡ after_stmt own n (stmt_of d) → n' ≡ behind n (cells (stmt_of d)) → least_from f' (stmts_breaches file own' n' (stmts_of (drop (i + 1) ds))) ≡ least_from f (stmts_breaches file own n (stmts_of (drop i ds)))
+  pub steps_first : (own own' : Names) (n n' : ℕ) (ds : List Stmt) (i : ℕ) (d : Stmt) (f f' : Option Breach) → i < length ds
+      → d ≡ get_or ds i d → f' ≡ least_from f (stmt_breaches file own n (stmt_of d)) → own' ≡ after_stmt own n (stmt_of d)
+      → n' ≡ behind n (cells (stmt_of d)) → least_from f' (stmts_breaches file own' n' (stmts_of (drop (i + 1) ds))) ≡ least_from f
+      (stmts_breaches file own n (stmts_of (drop i ds)))
   steps_first own own' n n' ds i d f f' h g w ho hn =
       rw (ho, hn, drop_here ds i d h g, w) (sym (least_append f (stmt_breaches file own n (stmt_of d)) _))
 
-pub declrs_own : (own own' : Names) (n n' : ℕ) (ds : List Declr) (i : ℕ) (d : Declr) → i < length ds → d ≡ get_or ds i d → own' ≡ after_declr own n (declr_of d) → n' ≡ behind n (declr_cells (declr_of d)) → after_declrs own' n' (map declr_of (drop (i + 1) ds)) ≡ after_declrs own n (map declr_of (drop i ds))
+pub declrs_own : (own own' : Names) (n n' : ℕ) (ds : List Declr) (i : ℕ) (d : Declr) → i < length ds → d ≡ get_or ds i d
+    → own' ≡ after_declr own n (declr_of d) → n' ≡ behind n (declr_cells (declr_of d))
+    → after_declrs own' n' (map declr_of (drop (i + 1) ds)) ≡ after_declrs own n (map declr_of (drop i ds))
 declrs_own own own' n n' ds i d h g ho hn = rw (ho, hn, drop_here ds i d h g) refl
 
-pub steps_own : (own own' : Names) (n n' : ℕ) (ds : List Stmt) (i : ℕ) (d : Stmt) → i < length ds → d ≡ get_or ds i d → own' ≡ after_stmt own n (stmt_of d) → n' ≡ behind n (cells (stmt_of d)) → after_stmts own' n' (stmts_of (drop (i + 1) ds)) ≡ after_stmts own n (stmts_of (drop i ds))
+pub steps_own : (own own' : Names) (n n' : ℕ) (ds : List Stmt) (i : ℕ) (d : Stmt) → i < length ds → d ≡ get_or ds i d
+    → own' ≡ after_stmt own n (stmt_of d) → n' ≡ behind n (cells (stmt_of d))
+    → after_stmts own' n' (stmts_of (drop (i + 1) ds)) ≡ after_stmts own n (stmts_of (drop i ds))
 steps_own own own' n n' ds i d h g ho hn = rw (ho, hn, drop_here ds i d h g) refl
 
-pub declrs_next : (n n' : ℕ) (ds : List Declr) (i : ℕ) (d : Declr) → i < length ds → d ≡ get_or ds i d → n' ≡ behind n (declr_cells (declr_of d)) → behind n' (declrs_cells (map declr_of (drop (i + 1) ds))) ≡ behind n (declrs_cells (map declr_of (drop i ds)))
+pub declrs_next : (n n' : ℕ) (ds : List Declr) (i : ℕ) (d : Declr) → i < length ds → d ≡ get_or ds i d
+    → n' ≡ behind n (declr_cells (declr_of d)) → behind n' (declrs_cells (map declr_of (drop (i + 1) ds))) ≡ behind n
+    (declrs_cells (map declr_of (drop i ds)))
 declrs_next n n' ds i d h g hn = rw (hn, drop_here ds i d h g) (behind_behind n (declr_cells (declr_of d)) _)
 
-pub steps_next : (n n' : ℕ) (ds : List Stmt) (i : ℕ) (d : Stmt) → i < length ds → d ≡ get_or ds i d → n' ≡ behind n (cells (stmt_of d)) → behind n' (cells_of_all (stmts_of (drop (i + 1) ds))) ≡ behind n (cells_of_all (stmts_of (drop i ds)))
+pub steps_next : (n n' : ℕ) (ds : List Stmt) (i : ℕ) (d : Stmt) → i < length ds → d ≡ get_or ds i d → n' ≡ behind n (cells (stmt_of d))
+    → behind n' (cells_of_all (stmts_of (drop (i + 1) ds))) ≡ behind n (cells_of_all (stmts_of (drop i ds)))
 steps_next n n' ds i d h g hn = rw (hn, drop_here ds i d h g) (behind_behind n (cells (stmt_of d)) _)

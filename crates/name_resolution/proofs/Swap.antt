@@ -9,7 +9,8 @@ use Rattle.name_resolution.proofs.Least.{kept_is_first, keeps_some}
 use Rattle.name_resolution.proofs.Unique.{one_first}
 
 -- lists with the same members have the same first
-same_members : (a : Breach) (cs : List Breach) (b : Breach) (bs : List Breach) → ((r : Breach) → Contains (a ∷ cs) r → Contains (b ∷ bs) r) → ((r : Breach) → Contains (b ∷ bs) r → Contains (a ∷ cs) r) → least_from (Some a) cs ≡ least_from (Some b) bs
+same_members : (a : Breach) (cs : List Breach) (b : Breach) (bs : List Breach) → ((r : Breach) → Contains (a ∷ cs) r → Contains (b ∷ bs) r)
+    → ((r : Breach) → Contains (b ∷ bs) r → Contains (a ∷ cs) r) → least_from (Some a) cs ≡ least_from (Some b) bs
 same_members a cs b bs f g = by (least_from (Some a) cs) (least_from (Some b) bs) refl refl
   where
     by : (o p : Option Breach) → least_from (Some a) cs ≡ o → least_from (Some b) bs ≡ p → o ≡ p

@@ -39,7 +39,9 @@ kernel_in places file c f fits of_file h =
     let n = behind 0 (cells_of_all f.body) in
     let own = params_fit (length f.params) c 0 f.params [] (omega arith) tt in
     record {
-      within = stmts_in (length f.params) n c (omega arith) places file (all_wide 0 (length f.params) 0 n c c (omega arith) (omega arith) (omega arith) file fits) (after_params [] 0 f.params) 0 f.body (omega arith) own d.1;
+      within = stmts_in (length f.params) n c (omega arith) places file
+          (all_wide 0 (length f.params) 0 n c c (omega arith) (omega arith) (omega arith) file fits) (after_params [] 0 f.params) 0 f.body
+          (omega arith) own d.1;
       counters = stmts_count (length f.params) c places file of_file (after_params [] 0 f.params) 0 f.body (omega arith) own d.1;
       places = length-map f.params (λ x. pos_of places x.name.at);
     }
@@ -78,7 +80,9 @@ declared_grown x d file h w o = by (is_some (decl_in file x))
         let l : constant_cells file ≤ constant_cells (file ++ (x, d) ∷ []) = omega (arith, e) in
         record {
           kept = record {
-            fits = appended (Fit 0 0 (constant_cells (file ++ (x, d) ∷ []))) file x d (all_wide 0 0 0 0 (constant_cells file) (constant_cells (file ++ (x, d) ∷ [])) (omega arith) (omega arith) l file h.fits) (subst (λ m. Fit 0 0 m d) (sym e) w);
+            fits = appended (Fit 0 0 (constant_cells (file ++ (x, d) ∷ []))) file x d
+                (all_wide 0 0 0 0 (constant_cells file) (constant_cells (file ++ (x, d) ∷ [])) (omega arith) (omega arith) l file h.fits)
+                (subst (λ m. Fit 0 0 m d) (sym e) w);
             of_file = appended IsOfFile file x d h.of_file o;
           };
           cells = l;
@@ -109,7 +113,8 @@ module _ (named : List (List ℕ)) where
 
   -- ---- all kernels
 
-  pub kernels_in : (places : List Pos) (c : ℕ) (file : Names) (ts : List TopTree) → Kept file → constant_cells (after_tops named file ts) ≤ c → tops_breaches named file ts ≡ [] → KernelsIn c (kernels named places file ts)
+  pub kernels_in : (places : List Pos) (c : ℕ) (file : Names) (ts : List TopTree) → Kept file
+      → constant_cells (after_tops named file ts) ≤ c → tops_breaches named file ts ≡ [] → KernelsIn c (kernels named places file ts)
   kernels_in places c file [] h l e = tt
   kernels_in places c file (t ∷ ts) h l e =
       let b = none_of_both (top_breaches named file t) (tops_breaches named (after_top named file t) ts) e in
@@ -117,7 +122,9 @@ module _ (named : List (List ℕ)) where
       let k = tops_grown (after_top named file t) ts g.kept in
       by t b.0 g.kept (omega (arith, k.cells)) (kernels_in places c (after_top named file t) ts g.kept l b.1)
     where
-      by : (t : TopTree) → top_breaches named file t ≡ [] → Kept (after_top named file t) → constant_cells (after_top named file t) ≤ c → KernelsIn c (kernels named places (after_top named file t) ts) → KernelsIn c (kernels_of named places file t ++ kernels named places (after_top named file t) ts)
+      by : (t : TopTree) → top_breaches named file t ≡ [] → Kept (after_top named file t) → constant_cells (after_top named file t) ≤ c
+          → KernelsIn c (kernels named places (after_top named file t) ts)
+          → KernelsIn c (kernels_of named places file t ++ kernels named places (after_top named file t) ts)
       by (tree.Extern x) h k m rest = rest
       by (tree.ExternArray x) h k m rest = rest
       by (tree.FileDeclaration v) h k m rest = rest

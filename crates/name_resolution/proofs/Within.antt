@@ -47,7 +47,8 @@ module _ (p c : ℕ) where
   declr_fits own next (tree.Array x n) l h =
       declared_are (Fit p (behind next (size_of n)) c) x.name _ own (all_up p next (behind next (size_of n)) c (omega arith) own h) (omega arith)
 
-  pub declrs_fit : (own : Names) (next : ℕ) (ds : List DeclrTree) → next + declrs_cells ds ≤ 1024 → AllAre (Fit p next c) own → AllAre (Fit p (behind next (declrs_cells ds)) c) (after_declrs own next ds)
+  pub declrs_fit : (own : Names) (next : ℕ) (ds : List DeclrTree) → next + declrs_cells ds ≤ 1024 → AllAre (Fit p next c) own
+      → AllAre (Fit p (behind next (declrs_cells ds)) c) (after_declrs own next ds)
   declrs_fit own next [] l h = all_up p next (behind next 0) c (omega arith) own h
   declrs_fit own next (d ∷ ds) l h =
       let low : next + declr_cells d ≤ 1024 = omega arith in
@@ -77,7 +78,8 @@ module _ (p n c : ℕ) (low : n ≤ 1024) (places : List Pos) (file : Names) (fi
       (omega arith, expr_in p n c places (scope file own) file_fits (all_up p next n c (omega arith) own h) v b.0)
   declr_in own next (tree.Array x m) l h e = l
 
-  declrs_in : (own : Names) (next : ℕ) (ds : List DeclrTree) → next + declrs_cells ds ≤ n → AllAre (Fit p next c) own → declrs_breaches file own next ds ≡ [] → RowIn p n c (declrs_steps places file own next ds)
+  declrs_in : (own : Names) (next : ℕ) (ds : List DeclrTree) → next + declrs_cells ds ≤ n → AllAre (Fit p next c) own
+      → declrs_breaches file own next ds ≡ [] → RowIn p n c (declrs_steps places file own next ds)
   declrs_in own next [] l h e = tt
   declrs_in own next (d ∷ ds) l h e =
       let b = none_of_both (declr_breaches file own d) (declrs_breaches file (after_declr own next d) (behind next (declr_cells d)) ds) e in
@@ -97,12 +99,15 @@ module _ (p n c : ℕ) (low : n ≤ 1024) (places : List Pos) (file : Names) (fi
     stmt_in own next (tree.IfElse at v x y) l h e =
         let b = none_of_both (expr_breaches true (scope file own) v) (stmt_breaches file own next x ++ stmt_breaches file own (behind next (cells x)) y) e in
         let d = none_of_both (stmt_breaches file own next x) (stmt_breaches file own (behind next (cells x)) y) b.1 in
-        (expr_in p n c places (scope file own) file_fits (all_up p next n c (omega arith) own h) v b.0, stmt_in own next x (omega arith) h d.0, stmt_in own (behind next (cells x)) y (omega arith) (all_up p next (behind next (cells x)) c (omega arith) own h) d.1)
+        (expr_in p n c places (scope file own) file_fits (all_up p next n c (omega arith) own h) v b.0,
+            stmt_in own next x (omega arith) h d.0, stmt_in own (behind next (cells x)) y (omega arith)
+            (all_up p next (behind next (cells x)) c (omega arith) own h) d.1)
     stmt_in own next (tree.For g x) l h e =
         let b = none_of_both (repeated g.name own) (stmt_breaches file (with_counter own next g) (behind next 1) x) e in
         (omega arith, stmt_in (with_counter own next g) (behind next 1) x (omega arith) (counter_fits p c own next g (omega arith) h) b.1)
 
-    pub stmts_in : (own : Names) (next : ℕ) (ss : StmtTrees) → next + cells_of_all ss ≤ n → AllAre (Fit p next c) own → stmts_breaches file own next ss ≡ [] → RowIn p n c (steps places file own next ss)
+    pub stmts_in : (own : Names) (next : ℕ) (ss : StmtTrees) → next + cells_of_all ss ≤ n → AllAre (Fit p next c) own
+        → stmts_breaches file own next ss ≡ [] → RowIn p n c (steps places file own next ss)
     stmts_in own next tree.NoStmt l h e = tt
     stmts_in own next (tree.MoreStmt x xs) l h e =
         let b = none_of_both (stmt_breaches file own next x) (stmts_breaches file (after_stmt own next x) (behind next (cells x)) xs) e in

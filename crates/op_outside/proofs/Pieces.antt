@@ -24,7 +24,8 @@ appended-twice None a b c e = refl
 appended-twice (Some x) a b c e = rw e (ap Some (append_assoc x a b))
 
 -- n bytes more were written
-pub written_more : (old : Option (List ℕ)) (bytes rest : List ℕ) (now new : Option (List ℕ)) (n : ℕ) → IsWritten old bytes rest now → n ≤ length rest → new ≡ appended now (take n rest) → IsWritten old bytes (take (length rest - n) (drop n rest)) new
+pub written_more : (old : Option (List ℕ)) (bytes rest : List ℕ) (now new : Option (List ℕ)) (n : ℕ) → IsWritten old bytes rest now
+    → n ≤ length rest → new ≡ appended now (take n rest) → IsWritten old bytes (take (length rest - n) (drop n rest)) new
 written_more old bytes rest now new n w h e = record {
   count = w.count + n;
   within = omega (arith, w.within, ap length w.left, length-drop w.count bytes);
@@ -34,17 +35,23 @@ written_more old bytes rest now new n w h e = record {
 }
 
 -- a front of the file, and the part that was read behind it
-front_file-more : (file bytes into : List ℕ) (n : ℕ) → bytes ≡ take (length bytes) file → length bytes ≤ length file → IsPart file (length bytes) n into → (bytes ++ take n into ≡ take (length (bytes ++ take n into)) file) × (length (bytes ++ take n into) ≤ length file)
+front_file-more : (file bytes into : List ℕ) (n : ℕ) → bytes ≡ take (length bytes) file → length bytes ≤ length file
+    → IsPart file (length bytes) n into → (bytes ++ take n into ≡ take (length (bytes ++ take n into)) file)
+    × (length (bytes ++ take n into) ≤ length file)
 front_file-more file bytes into n e le part =
     let whole : length (take n (drop (length bytes) file)) ≡ n = length-take-le n (drop (length bytes) file) part.within in
     let count : length (take n into) ≡ n = ap length part.same ∙ whole in
     let sum : length (bytes ++ take n into) ≡ length bytes + n = length-append bytes (take n into) ∙ ap (λ k. length bytes + k) count in
     (ap₂ ◌++◌ e part.same ∙ sym (take-add (length bytes) n file) ∙ ap (λ k. take k file) (sym sum), omega (arith, sum, part.within, length-drop (length bytes) file))
 
-pub front-more : (told : Option Files) (name bytes into : List ℕ) (from n : ℕ) → from ≡ length bytes → IsFront told name bytes → Holds told name (λ file. IsPart file from n into) → IsFront told name (bytes ++ take n into)
+pub front-more : (told : Option Files) (name bytes into : List ℕ) (from n : ℕ) → from ≡ length bytes → IsFront told name bytes
+    → Holds told name (λ file. IsPart file from n into) → IsFront told name (bytes ++ take n into)
 front-more None name bytes into from n start front part = tt
 front-more (Some files) name bytes into from n start front part = go (files name) front (rw start at part)
   where
-    go : (found : Option (List ℕ)) → IfSome found (λ file. (bytes ≡ take (length bytes) file) × (length bytes ≤ length file)) → IsSomeAnd found (λ file. IsPart file (length bytes) n into) → IfSome found (λ file. (bytes ++ take n into ≡ take (length (bytes ++ take n into)) file) × (length (bytes ++ take n into) ≤ length file))
+    go : (found : Option (List ℕ)) → IfSome found (λ file. (bytes ≡ take (length bytes) file) × (length bytes ≤ length file))
+        → IsSomeAnd found (λ file. IsPart file (length bytes) n into)
+        → IfSome found (λ file. (bytes ++ take n into ≡ take (length (bytes ++ take n into)) file)
+        × (length (bytes ++ take n into) ≤ length file))
     go None f p = tt
     go (Some file) f p = front_file-more file bytes into n f.0 f.1 p

@@ -20,7 +20,8 @@ only_answer P one (Err (refusal.Lex e)) o h a = one (Err (refusal.Lex e)) o a h
 only_answer P one (Err refusal.OutOfMemory) o h a = tt
 
 -- the words are those of a list
-pub listed : (xs : List (Bor (List ℕ))) (ws : List Word) (bs : List ℕ) → map (λ x. x.now) xs ≡ map word_spelling ws → list_any (λ x. bytes_eq bs x.now) xs ≡ is_some (find (λ w. bytes_eq bs (word_spelling w)) ws)
+pub listed : (xs : List (Bor (List ℕ))) (ws : List Word) (bs : List ℕ) → map (λ x. x.now) xs ≡ map word_spelling ws
+    → list_any (λ x. bytes_eq bs x.now) xs ≡ is_some (find (λ w. bytes_eq bs (word_spelling w)) ws)
 listed [] [] bs e = refl
 listed [] (w ∷ ws) bs e = let q : ⊥ = cc in absurd q
 listed (x ∷ xs) [] bs e = let q : ⊥ = cc in absurd q

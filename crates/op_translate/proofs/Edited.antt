@@ -50,14 +50,17 @@ pub record Four (x : List ℕ) (n : ℕ) (p : Pos) (size : ℕ) (more : List Par
       ≡ token (kind.Word word.OpParLoop) n (n + 11) p ∷ token (kind.Sign sign.LeftParen) paren (paren + 1) paren_at ∷ token (kind.Name x) name (name + length x) name_at
       ∷ token (kind.Sign sign.Comma) comma (n + size) comma_at ∷ tokens_of (n + size) behind more
 
-call_size : (x : List ℕ) (f g h : List (List ℕ)) → length (all_bytes (call_parts x f g h)) ≡ 11 + (length (all_bytes (gaps f)) + (1 + (length (all_bytes (gaps g)) + (length x + (length (all_bytes (gaps h)) + 1)))))
+call_size : (x : List ℕ) (f g h : List (List ℕ)) → length (all_bytes (call_parts x f g h)) ≡ 11 +
+    (length (all_bytes (gaps f)) + (1 + (length (all_bytes (gaps g)) + (length x + (length (all_bytes (gaps h)) + 1)))))
 call_size x f g h =
     let third : List Part = gaps h ++ comma_part ∷ [] in
     let second : List Part = gaps g ++ name_part x ∷ third in
     let e1 = ap length (over f (paren_part ∷ second)) in
     let e2 = ap length (over g (name_part x ∷ third)) in
     let e3 = ap length (over h (comma_part ∷ [])) in
-    omega (arith, e1, e2, e3, length-append (all_bytes (gaps f)) (codes "(" ++ all_bytes second), length-append (all_bytes (gaps g)) (x ++ all_bytes third), length-append x (all_bytes third), length-append (all_bytes (gaps h)) (codes ","))
+    omega (arith, e1, e2, e3, length-append (all_bytes (gaps f))
+        (codes "(" ++ all_bytes second), length-append (all_bytes (gaps g)) (x ++ all_bytes third), length-append x (all_bytes third),
+        length-append (all_bytes (gaps h)) (codes ","))
   where
     over : (g : List (List ℕ)) (ps : List Part) → all_bytes (gaps g ++ ps) ≡ all_bytes (gaps g) ++ all_bytes ps
     over g ps = all_bytes-append (gaps g) ps
@@ -123,7 +126,10 @@ kernel_found : (x : List ℕ) → IsKernel x → kernel_in (prefix ++ x) ≡ Som
 kernel_found x k = ap (λ t. cond t (Some x) None) (is_named x k)
 
 -- the tokens of a stub's call
-stub_begun : (x : List ℕ) → IsKernel x → (n : ℕ) (p q : Pos) (m : ℕ) (ts : List Token) → to_call (token (kind.Name (prefix ++ x)) n (n + length (prefix ++ x)) p ∷ token (kind.Sign sign.LeftParen) (n + length (prefix ++ x)) m q ∷ ts) ≡ Some (record { from = n; to = m; text = codes "op_par_loop(" ++ (x ++ codes ",") })
+stub_begun : (x : List ℕ) → IsKernel x → (n : ℕ) (p q : Pos) (m : ℕ) (ts : List Token)
+    → to_call (token (kind.Name (prefix ++ x)) n (n + length (prefix ++ x)) p
+    ∷ token (kind.Sign sign.LeftParen) (n + length (prefix ++ x)) m q ∷ ts) ≡ Some
+    (record { from = n; to = m; text = codes "op_par_loop(" ++ (x ++ codes ",") })
 stub_begun x k n p q m ts = ap (option_map (λ z. record { from = n; to = m; text = codes "op_par_loop(" ++ (z ++ codes ",") })) (kernel_found x k)
 
 stub_size : (x : List ℕ) (n : ℕ) → n + length (prefix ++ x) + 1 ≡ n + length (all_bytes (stub_parts x))

@@ -27,7 +27,8 @@ AreEdits begins [] = Unit {0}
 AreEdits begins (Keep p ∷ ps) = NoEdit begins p × AreEdits begins ps
 AreEdits begins (Swap old new ∷ ps) = OneEdit begins old new × AreEdits begins ps
 
-after_kept : (begins : List Token → Option Edit) (n : ℕ) (p : Pos) (x : Part) (more : List Part) → NoEdit begins x → edits begins (tokens_of n p (x ∷ more)) ≡ edits begins (tokens_of (n + length (bytes_of x)) (advance p (bytes_of x)) more)
+after_kept : (begins : List Token → Option Edit) (n : ℕ) (p : Pos) (x : Part) (more : List Part) → NoEdit begins x
+    → edits begins (tokens_of n p (x ∷ more)) ≡ edits begins (tokens_of (n + length (bytes_of x)) (advance p (bytes_of x)) more)
 after_kept begins n p (Passed s) more h = refl
 after_kept begins n p (Spelled k s) more h =
     let t : Token = record { kind = k; from = n; to = n + length s; at = p } in
@@ -36,12 +37,15 @@ after_kept begins n p (Spelled k s) more h =
 
 -- ---- one edit
 
-one_made : (m : ℕ) (kept old rest text : List ℕ) (es : List Edit) → edited m (kept ++ (old ++ rest)) (record { from = m + length kept; to = m + length kept + length old; text = text } ∷ es) ≡ kept ++ text ++ edited (m + length kept + length old) rest es
+one_made : (m : ℕ) (kept old rest text : List ℕ) (es : List Edit)
+    → edited m (kept ++ (old ++ rest)) (record { from = m + length kept; to = m + length kept + length old; text = text } ∷ es) ≡ kept ++
+    text ++ edited (m + length kept + length old) rest es
 one_made m kept old rest text es =
     let bs : List ℕ = kept ++ (old ++ rest) in
     let front : take (m + length kept - m) bs ≡ kept = ap (λ z. take z bs) (let e : m + length kept - m ≡ length kept = omega arith in e) ∙ take-append_seam kept (old ++ rest) in
     let size : m + length kept + length old - m ≡ length (kept ++ old) = omega (arith, length-append kept old) in
-    let back : drop (m + length kept + length old - m) bs ≡ rest = ap (λ z. drop z bs) size ∙ (ap (λ z. drop (length (kept ++ old)) z) (sym (append_assoc kept old rest)) ∙ drop-append_seam (kept ++ old) rest) in
+    let back : drop (m + length kept + length old - m) bs ≡ rest = ap (λ z. drop z bs) size
+        ∙ (ap (λ z. drop (length (kept ++ old)) z) (sym (append_assoc kept old rest)) ∙ drop-append_seam (kept ++ old) rest) in
     ap (λ z. z ++ text ++ edited (m + length kept + length old) (drop (m + length kept + length old - m) bs) es) front
     ∙ ap (λ z. kept ++ text ++ edited (m + length kept + length old) z es) back
 

@@ -24,7 +24,8 @@ number_behind number [] = number
 number_behind number (p ∷ ps) = number_behind (is_number_part p) ps
 
 -- what the last of some parts leaves
-pub left_behind : (stop : Stop) (fresh number : Bool) (bs : List ℕ) (xs ys : List Part) → AreParts stop fresh number bs (xs ++ ys) → (rest : List ℕ) × (bs ≡ all_bytes xs ++ rest) × AreParts stop (fresh_behind fresh xs) (number_behind number xs) rest ys
+pub left_behind : (stop : Stop) (fresh number : Bool) (bs : List ℕ) (xs ys : List Part) → AreParts stop fresh number bs (xs ++ ys)
+    → (rest : List ℕ) × (bs ≡ all_bytes xs ++ rest) × AreParts stop (fresh_behind fresh xs) (number_behind number xs) rest ys
 left_behind stop fresh number bs [] ys a = (bs, refl, a)
 left_behind stop fresh number bs (x ∷ xs) ys a =
     let w = left_behind stop (is_fresh_behind fresh x) (is_number_part x) a.1.0 xs ys a.1.3 in
@@ -156,4 +157,5 @@ spliced (Swap old new ∷ ps) fresh number h a =
     let begins : all_bytes (old ++ olds ps) ≡ 111 ∷ (h.0.old_first.0 ++ rest) = split ∙ ap (λ z. z ++ rest) h.0.old_first.1 in
     let clear : number ≡ true → ⊥ =
     λ n. true≢false (let q : IsApart (111 ∷ (h.0.old_first.0 ++ rest)) = subst IsApart begins (h.0.apart AtEnd fresh number (all_bytes (old ++ olds ps)) (olds ps) a n) in q) in
-    subst (λ z. AreParts AtEnd fresh number z (new ++ news ps)) (sym (all_bytes-append new (news ps))) (h.0.stand AtEnd fresh number (all_bytes (news ps)) (news ps) clear (spliced ps false false h.1 later))
+    subst (λ z. AreParts AtEnd fresh number z (new ++ news ps)) (sym (all_bytes-append new (news ps)))
+        (h.0.stand AtEnd fresh number (all_bytes (news ps)) (news ps) clear (spliced ps false false h.1 later))

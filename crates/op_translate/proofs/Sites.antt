@@ -135,11 +135,15 @@ loop_is : (k : Kind) → is_loop k ≡ true → k ≡ kind.Word word.OpParLoop
 loop_is (kind.Word word.OpParLoop) h = refl
 loop_is k h = cc
 
-pub call_row : (x : List ℕ) (f g h : List (List ℕ)) (more : List Part) → call_parts x f g h ++ more ≡ Spelled (kind.Word word.OpParLoop) (codes "op_par_loop") ∷ (gaps f ++ paren_part ∷ (gaps g ++ name_part x ∷ (gaps h ++ comma_part ∷ more)))
+pub call_row : (x : List ℕ) (f g h : List (List ℕ)) (more : List Part)
+    → call_parts x f g h ++ more ≡ Spelled (kind.Word word.OpParLoop) (codes "op_par_loop")
+    ∷ (gaps f ++ paren_part ∷ (gaps g ++ name_part x ∷ (gaps h ++ comma_part ∷ more)))
 call_row x f g h more = simp append_assoc refl
 
 -- one part more
-one_more : (k : Kind) (s : List ℕ) (xs : List Part) → Follows k (part_kinds xs) → is_taken k ≡ false → HasForm k s → Divided xs → ((x : List ℕ) (ks : List Kind) → part_kinds xs ≡ kind.Sign sign.LeftParen ∷ kind.Name x ∷ kind.Sign sign.Comma ∷ ks → OpenHere x xs) → Divided (Spelled k s ∷ xs)
+one_more : (k : Kind) (s : List ℕ) (xs : List Part) → Follows k (part_kinds xs) → is_taken k ≡ false → HasForm k s → Divided xs
+    → ((x : List ℕ) (ks : List Kind) → part_kinds xs ≡ kind.Sign sign.LeftParen ∷ kind.Name x ∷ kind.Sign sign.Comma ∷ ks → OpenHere x xs)
+    → Divided (Spelled k s ∷ xs)
 one_more k s xs lead free form d go = by_kind (is_loop k) refl
   where
     by_kind : (t : Bool) → is_loop k ≡ t → Divided (Spelled k s ∷ xs)
@@ -152,7 +156,9 @@ one_more k s xs lead free form d go = by_kind (is_loop k) refl
         let o = go behind.0 behind.1 behind.2 in
         record {
           sites = Called behind.0 o.first o.second o.third ∷ o.sites;
-          same = ap₂ (λ u v. Spelled u v ∷ xs) is text ∙ (ap (λ z. Spelled (kind.Word word.OpParLoop) (codes "op_par_loop") ∷ z) o.same ∙ sym (call_row behind.0 o.first o.second o.third (olds (forward o.sites))));
+          same = ap₂ (λ u v. Spelled u v ∷ xs) is text ∙
+              (ap (λ z. Spelled (kind.Word word.OpParLoop) (codes "op_par_loop") ∷ z) o.same
+              ∙ sym (call_row behind.0 o.first o.second o.third (olds (forward o.sites))));
           are = (o.kernel, o.are);
         }
 
@@ -165,7 +171,8 @@ mutual
   divide (Spelled k s ∷ xs) a b c =
       one_more k s xs a.0 b.0 c.0 (divide xs a.1 b.1 c.1) (λ x ks e. divide_open xs x ks e a.1 b.1 c.1)
 
-  divide_open : (xs : List Part) (x : List ℕ) (ks : List Kind) → part_kinds xs ≡ kind.Sign sign.LeftParen ∷ kind.Name x ∷ kind.Sign sign.Comma ∷ ks → AllFollow (part_kinds xs) → NoneTaken (part_kinds xs) → HaveForms xs → OpenHere x xs
+  divide_open : (xs : List Part) (x : List ℕ) (ks : List Kind) → part_kinds xs ≡ kind.Sign sign.LeftParen ∷ kind.Name x
+      ∷ kind.Sign sign.Comma ∷ ks → AllFollow (part_kinds xs) → NoneTaken (part_kinds xs) → HaveForms xs → OpenHere x xs
   divide_open [] x ks e a b c = let q : ⊥ = cc in absurd q
   divide_open (Passed s ∷ xs) x ks e a b c =
       let d = divide_open xs x ks e a b c in
@@ -177,7 +184,8 @@ mutual
       let d = divide_name xs x ks later a.1 b.1 c.1 in
       record { first = []; second = d.second; third = d.third; sites = d.sites; same = ap₂ (λ u v. Spelled u v ∷ xs) is text ∙ ap (λ z. paren_part ∷ z) d.same; are = d.are; kernel = d.kernel }
 
-  divide_name : (xs : List Part) (x : List ℕ) (ks : List Kind) → part_kinds xs ≡ kind.Name x ∷ kind.Sign sign.Comma ∷ ks → AllFollow (part_kinds xs) → NoneTaken (part_kinds xs) → HaveForms xs → NameHere x xs
+  divide_name : (xs : List Part) (x : List ℕ) (ks : List Kind) → part_kinds xs ≡ kind.Name x ∷ kind.Sign sign.Comma ∷ ks
+      → AllFollow (part_kinds xs) → NoneTaken (part_kinds xs) → HaveForms xs → NameHere x xs
   divide_name [] x ks e a b c = let q : ⊥ = cc in absurd q
   divide_name (Passed s ∷ xs) x ks e a b c =
       let d = divide_name xs x ks e a b c in
@@ -247,7 +255,8 @@ kinds_over : (g : List (List ℕ)) (ps : List Part) → part_kinds (gaps g ++ ps
 kinds_over [] ps = refl
 kinds_over (s ∷ g) ps = kinds_over g ps
 
-call_kinds : (x : List ℕ) (f g h : List (List ℕ)) (more : List Part) → part_kinds (call_parts x f g h ++ more) ≡ kind.Word word.OpParLoop ∷ kind.Sign sign.LeftParen ∷ kind.Name x ∷ kind.Sign sign.Comma ∷ part_kinds more
+call_kinds : (x : List ℕ) (f g h : List (List ℕ)) (more : List Part) → part_kinds (call_parts x f g h ++ more) ≡ kind.Word word.OpParLoop
+    ∷ kind.Sign sign.LeftParen ∷ kind.Name x ∷ kind.Sign sign.Comma ∷ part_kinds more
 call_kinds x f g h more =
     ap part_kinds (call_row x f g h more)
     ∙ ap (λ z. kind.Word word.OpParLoop ∷ z) (kinds_over f _ ∙ ap (λ z. kind.Sign sign.LeftParen ∷ z) (kinds_over g _ ∙ ap (λ z. kind.Name x ∷ z) (kinds_over h _)))

@@ -6,7 +6,8 @@ use Rattle.op_translate.specs.declared.refusals.TransRefusal.{TransRefusal}
 use Rattle.op_translate.specs.Edits.{Edit, edited, with_edit, edits, LieWithin}
 use Rattle.op_translate.specs.Translation.{or_else, first_refusal}
 
-pub refusal_step : (refuses : List Token → Option TransRefusal) (i : ℕ) (ts : List Token) → i < length ts → first_refusal refuses (drop i ts) ≡ or_else (refuses (drop i ts)) (first_refusal refuses (drop (i + 1) ts))
+pub refusal_step : (refuses : List Token → Option TransRefusal) (i : ℕ) (ts : List Token) → i < length ts
+    → first_refusal refuses (drop i ts) ≡ or_else (refuses (drop i ts)) (first_refusal refuses (drop (i + 1) ts))
 refusal_step refuses i [] h = absurd (omega (arith, h))
 refusal_step refuses zero (t ∷ ts) h = refl
 refusal_step refuses (suc i) (t ∷ ts) h =
@@ -36,13 +37,17 @@ pub record Turn (n end : ℕ) (e : Edit) (es : List Edit) : Type 0 where
   pub order : e.from ≤ e.to
   pub later : LieWithin e.to end es
 
-pub turn : (begins : List Token → Option Edit) (i : ℕ) (ts : List Token) (n end : ℕ) (e : Edit) → i < length ts → begins (drop i ts) ≡ Some e → LieWithin n end (edits begins (drop i ts)) → Turn n end e (edits begins (drop (i + 1) ts))
+pub turn : (begins : List Token → Option Edit) (i : ℕ) (ts : List Token) (n end : ℕ) (e : Edit) → i < length ts
+    → begins (drop i ts) ≡ Some e → LieWithin n end (edits begins (drop i ts)) → Turn n end e (edits begins (drop (i + 1) ts))
 turn begins i ts n end e short here h =
     let row : edits begins (drop i ts) ≡ e ∷ edits begins (drop (i + 1) ts) = edits_step begins i ts short ∙ ap (λ o. with_edit o (edits begins (drop (i + 1) ts))) here in
     let q : LieWithin n end (e ∷ edits begins (drop (i + 1) ts)) = subst (LieWithin n end) row h in
     record { after = q.0; order = q.1; later = q.2 }
 
-pub edited_turn : (begins : List Token → Option Edit) (i : ℕ) (ts : List Token) (n end : ℕ) (e : Edit) (bytes out all : List ℕ) → i < length ts → begins (drop i ts) ≡ Some e → Turn n end e (edits begins (drop (i + 1) ts)) → out ++ edited n (drop n bytes) (edits begins (drop i ts)) ≡ all → out ++ take (e.from - n) (drop n bytes) ++ e.text ++ edited e.to (drop e.to bytes) (edits begins (drop (i + 1) ts)) ≡ all
+pub edited_turn : (begins : List Token → Option Edit) (i : ℕ) (ts : List Token) (n end : ℕ) (e : Edit) (bytes out all : List ℕ)
+    → i < length ts → begins (drop i ts) ≡ Some e → Turn n end e (edits begins (drop (i + 1) ts))
+    → out ++ edited n (drop n bytes) (edits begins (drop i ts)) ≡ all
+    → out ++ take (e.from - n) (drop n bytes) ++ e.text ++ edited e.to (drop e.to bytes) (edits begins (drop (i + 1) ts)) ≡ all
 edited_turn begins i ts n end e bytes out all short here t h =
     let es : List Edit = edits begins (drop (i + 1) ts) in
     let row : edits begins (drop i ts) ≡ e ∷ es = edits_step begins i ts short ∙ ap (λ o. with_edit o es) here in

@@ -75,7 +75,8 @@ nothing_left : (s rest : List ℕ) → 10 ∷ [] ≡ 10 ∷ (s ++ rest) → (s �
 nothing_left [] rest e = (refl, cc)
 nothing_left (b ∷ s) rest e = let q : ⊥ = cc in absurd q
 
-grown_line : (xs : List Part) (fresh number : Bool) (z t : List ℕ) (ts : List Part) → StandAnywhere t ts → AreParts AtEnd fresh number (z ++ 10 ∷ []) xs → AreParts AtEnd fresh number (z ++ 10 ∷ t) (xs ++ ts)
+grown_line : (xs : List Part) (fresh number : Bool) (z t : List ℕ) (ts : List Part) → StandAnywhere t ts
+    → AreParts AtEnd fresh number (z ++ 10 ∷ []) xs → AreParts AtEnd fresh number (z ++ 10 ∷ t) (xs ++ ts)
 grown_line [] fresh number z t ts st a = absurd (none z a)
   where
     none : (z : List ℕ) → z ++ 10 ∷ [] ≡ [] → ⊥
@@ -181,6 +182,8 @@ grows bytes ls xs clean a = by_end (ends_line bytes) refl
         record {
           more = line_parts ls;
           bytes_are = ap (λ z. z ++ table) (sym same);
-          are = subst (λ z. AreParts AtEnd true false z (xs ++ line_parts ls)) row (grown_line xs true false r.front table (line_parts ls) (λ fresh number. lines_stand ls fresh number clean) (subst (λ z. AreParts AtEnd true false z xs) r.is a));
+          are = subst (λ z. AreParts AtEnd true false z (xs ++ line_parts ls)) row
+              (grown_line xs true false r.front table (line_parts ls) (λ fresh number. lines_stand ls fresh number clean)
+              (subst (λ z. AreParts AtEnd true false z xs) r.is a));
           passed = lines_passed ls;
         }

@@ -26,7 +26,9 @@ window-back stride j low a b h =
     ap (λ n. take stride (drop n (a ++ b))) e ∙ ap (take stride) (drop-append-add a b (j * stride))
 
 -- the windows of both parts are those of the whole
-pub each-halves : (f : ℕ → List ℤ → List ℤ) (stride first count low : ℕ) (a b a' b' s : List ℤ) → low ≤ count → length a ≡ low * stride → length a' ≡ low * stride → a ++ b ≡ s → EachWindow f stride first low a a' → EachWindow f stride (first + low) (count - low) b b' → EachWindow f stride first count s (a' ++ b')
+pub each-halves : (f : ℕ → List ℤ → List ℤ) (stride first count low : ℕ) (a b a' b' s : List ℤ) → low ≤ count → length a ≡ low * stride
+    → length a' ≡ low * stride → a ++ b ≡ s → EachWindow f stride first low a a' → EachWindow f stride (first + low) (count - low) b b'
+    → EachWindow f stride first count s (a' ++ b')
 each-halves f stride first count low a b a' b' s le la la' e front back = record { became = λ i lt. go i lt (nat_lt i low) refl }
   where
     go : (i : ℕ) → i < count → (test : Bool) → nat_lt i low ≡ test → window stride i (a' ++ b') ≡ f (first + i) (window stride i s)
@@ -48,7 +50,8 @@ window-next stride j s =
     ap (take stride) (drop-drop (j * stride) stride s ∙ ap (λ n. drop n s) e)
 
 -- a buffer whose windows became what a function makes of them is the buffer with its windows replaced
-pub replaced-each : (f : ℕ → List ℤ → List ℤ) (stride i n : ℕ) (old new : List ℤ) → length old ≡ n * stride → length new ≡ n * stride → EachWindow f stride i n old new → new ≡ replaced f stride i n old
+pub replaced-each : (f : ℕ → List ℤ → List ℤ) (stride i n : ℕ) (old new : List ℤ) → length old ≡ n * stride → length new ≡ n * stride
+    → EachWindow f stride i n old new → new ≡ replaced f stride i n old
 replaced-each f stride i zero old new lo ln each = empty_from_length new (omega (arith, ln)) ∙ sym (empty_from_length old (omega (arith, lo)))
 replaced-each f stride i (suc n) old new lo ln each =
     let start : 0 * stride ≡ 0 = omega arith in

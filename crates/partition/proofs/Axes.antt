@@ -32,7 +32,10 @@ higher_kept f most place here p h l k lk = ⊎_elim
     (cases_eq k place)
 
 -- the spread from the greatest and the least value
-pub spread_from : (values : List ℤ) (dim a : ℕ) (xs : List ℕ) (high low most least : ℕ) → high < length xs → low < length xs → ((k : ℕ) → k < length xs → height values dim a (get_or xs k 0) ≤ most) → ((k : ℕ) → k < length xs → least ≤ height values dim a (get_or xs k 0)) → height values dim a (get_or xs high 0) ≡ most → height values dim a (get_or xs low 0) ≡ least → IsSpread values dim a xs (most - least)
+pub spread_from : (values : List ℤ) (dim a : ℕ) (xs : List ℕ) (high low most least : ℕ) → high < length xs → low < length xs
+    → ((k : ℕ) → k < length xs → height values dim a (get_or xs k 0) ≤ most)
+    → ((k : ℕ) → k < length xs → least ≤ height values dim a (get_or xs k 0)) → height values dim a (get_or xs high 0) ≡ most
+    → height values dim a (get_or xs low 0) ≡ least → IsSpread values dim a xs (most - least)
 spread_from values dim a xs high low most least lh ll up down p q = record {
   most = λ i j li lj. (let u = up i li in let v = down j lj in omega (arith, u, v));
   high = high;
@@ -47,16 +50,22 @@ pub spread_le : (values : List ℤ) (dim a : ℕ) (xs : List ℕ) (d e : ℕ) �
 spread_le values dim a xs d e s t = omega (arith, s.reached, t.most s.high s.low s.high_in s.low_in)
 
 -- an axis more, of a larger spread or not
-pub axis_larger : (values : List ℤ) (dim : ℕ) (xs : List ℕ) (axis most found : ℕ) → ((b : ℕ) (d : ℕ) → b < axis → IsSpread values dim b xs d → d ≤ most) → IsSpread values dim axis xs found → most < found → (b : ℕ) (d : ℕ) → b < axis + 1 → IsSpread values dim b xs d → d ≤ found
+pub axis_larger : (values : List ℤ) (dim : ℕ) (xs : List ℕ) (axis most found : ℕ)
+    → ((b : ℕ) (d : ℕ) → b < axis → IsSpread values dim b xs d → d ≤ most) → IsSpread values dim axis xs found → most < found
+    → (b : ℕ) (d : ℕ) → b < axis + 1 → IsSpread values dim b xs d → d ≤ found
 axis_larger values dim xs axis most found h s l b d lb t = ⊎_elim
     (λ (e : b ≡ axis). spread_le values dim axis xs d found (subst (λ (z : ℕ). IsSpread values dim z xs d) e t) s)
     (λ (n : b ≡ axis → ⊥). let a : d ≤ most = h b d (omega arith) t in omega (arith, a, l))
     (cases_eq b axis)
 
-pub axis_strict : (values : List ℤ) (dim : ℕ) (xs : List ℕ) (axis most found : ℕ) → ((b : ℕ) (d : ℕ) → b < axis → IsSpread values dim b xs d → d ≤ most) → most < found → (b : ℕ) (d : ℕ) → b < axis → IsSpread values dim b xs d → d < found
+pub axis_strict : (values : List ℤ) (dim : ℕ) (xs : List ℕ) (axis most found : ℕ)
+    → ((b : ℕ) (d : ℕ) → b < axis → IsSpread values dim b xs d → d ≤ most) → most < found → (b : ℕ) (d : ℕ) → b < axis
+    → IsSpread values dim b xs d → d < found
 axis_strict values dim xs axis most found h l b d lb t = let a : d ≤ most = h b d lb t in omega (arith, a, l)
 
-pub axis_kept : (values : List ℤ) (dim : ℕ) (xs : List ℕ) (axis most found : ℕ) → ((b : ℕ) (d : ℕ) → b < axis → IsSpread values dim b xs d → d ≤ most) → IsSpread values dim axis xs found → found ≤ most → (b : ℕ) (d : ℕ) → b < axis + 1 → IsSpread values dim b xs d → d ≤ most
+pub axis_kept : (values : List ℤ) (dim : ℕ) (xs : List ℕ) (axis most found : ℕ)
+    → ((b : ℕ) (d : ℕ) → b < axis → IsSpread values dim b xs d → d ≤ most) → IsSpread values dim axis xs found → found ≤ most
+    → (b : ℕ) (d : ℕ) → b < axis + 1 → IsSpread values dim b xs d → d ≤ most
 axis_kept values dim xs axis most found h s l b d lb t = ⊎_elim
     (λ (e : b ≡ axis). let a : d ≤ found = spread_le values dim axis xs d found (subst (λ (z : ℕ). IsSpread values dim z xs d) e t) s in omega (arith, a, l))
     (λ (n : b ≡ axis → ⊥). h b d (omega arith) t)

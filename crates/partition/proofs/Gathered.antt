@@ -65,17 +65,26 @@ pub gathered_none : (n : ℕ) (p : ℕ → Bool) (f : ℕ → ℕ) → any_below
 gathered_none n p f h = length_gathered n p f ∙ none_counted n p (none_passes n p h)
 
 -- the rank elected from the list of a target's owners
-pub target_elected : (g : MeshValue) (owners : List ℕ) (m x ranks r : ℕ) (xs : List ℕ) → xs ≡ gathered (map_dim g m) (λ i. true) (λ i. get_or owners (target g m x i) 0) → IsElected ranks (λ q. count_by (λ y. nat_eq y q) xs) r → IsElected ranks (target_votes g owners m x) r
+pub target_elected : (g : MeshValue) (owners : List ℕ) (m x ranks r : ℕ) (xs : List ℕ)
+    → xs ≡ gathered (map_dim g m) (λ i. true) (λ i. get_or owners (target g m x i) 0)
+    → IsElected ranks (λ q. count_by (λ y. nat_eq y q) xs) r → IsElected ranks (target_votes g owners m x) r
 unfolding target_votes
-target_elected g owners m x ranks r xs e h = elected_agree ranks _ _ r (λ q l. ap (λ (z : List ℕ). count_by (λ y. nat_eq y q) z) e ∙ count_gathered (map_dim g m) (λ i. true) (λ i. get_or owners (target g m x i) 0) (λ y. nat_eq y q)) h
+target_elected g owners m x ranks r xs e h = elected_agree ranks _ _ r
+    (λ q l. ap (λ (z : List ℕ). count_by (λ y. nat_eq y q) z) e
+    ∙ count_gathered (map_dim g m) (λ i. true) (λ i. get_or owners (target g m x i) 0) (λ y. nat_eq y q)) h
 
 -- the rank elected from the list of the owners that name an element
-pub naming_elected : (g : MeshValue) (owners : List ℕ) (m y ranks r : ℕ) (xs : List ℕ) → xs ≡ gathered (entries g m) (names g m y) (λ e. get_or owners (e / map_dim g m) 0) → (0 < length xs → IsElected ranks (λ q. count_by (λ z. nat_eq z q) xs) r) → is_named g m y ≡ true → IsElected ranks (naming_votes g owners m y) r
+pub naming_elected : (g : MeshValue) (owners : List ℕ) (m y ranks r : ℕ) (xs : List ℕ)
+    → xs ≡ gathered (entries g m) (names g m y) (λ e. get_or owners (e / map_dim g m) 0)
+    → (0 < length xs → IsElected ranks (λ q. count_by (λ z. nat_eq z q) xs) r) → is_named g m y ≡ true
+    → IsElected ranks (naming_votes g owners m y) r
 unfolding naming_votes is_named
 naming_elected g owners m y ranks r xs e h t =
     let some : 0 < length xs = rw e (gathered_some (entries g m) (names g m y) (λ e. get_or owners (e / map_dim g m) 0) t) in
-    elected_agree ranks _ _ r (λ q l. ap (λ (z : List ℕ). count_by (λ x. nat_eq x q) z) e ∙ count_gathered (entries g m) (names g m y) (λ e. get_or owners (e / map_dim g m) 0) (λ x. nat_eq x q)) (h some)
+    elected_agree ranks _ _ r (λ q l. ap (λ (z : List ℕ). count_by (λ x. nat_eq x q) z) e
+        ∙ count_gathered (entries g m) (names g m y) (λ e. get_or owners (e / map_dim g m) 0) (λ x. nat_eq x q)) (h some)
 
-pub unnamed_empty : (g : MeshValue) (owners : List ℕ) (m y : ℕ) (xs : List ℕ) → xs ≡ gathered (entries g m) (names g m y) (λ e. get_or owners (e / map_dim g m) 0) → is_named g m y ≡ false → length xs ≡ 0
+pub unnamed_empty : (g : MeshValue) (owners : List ℕ) (m y : ℕ) (xs : List ℕ)
+    → xs ≡ gathered (entries g m) (names g m y) (λ e. get_or owners (e / map_dim g m) 0) → is_named g m y ≡ false → length xs ≡ 0
 unfolding is_named
 unnamed_empty g owners m y xs e t = ap (length {A = ℕ}) e ∙ gathered_none (entries g m) (names g m y) (λ e. get_or owners (e / map_dim g m) 0) t

@@ -40,7 +40,9 @@ in_some_block n ranks (suc m) k l = ⊎_elim
     (λ (a : block_start n ranks m ≤ k). (m, (a, subst (λ z. k < block_start n ranks z) (sym (add-one m)) l)))
     (cases_lt k (block_start n ranks m))
 
-next_push : (n ranks : ℕ) (near : ℕ → ℕ → Bool) (i : ℕ) (order : List ℕ) (z : ℕ) → 0 < ranks → AreNextFree n ranks near order → InBlock n ranks i (length order) → IsNextFree n near order (drop (block_start n ranks i) order) z → AreNextFree n ranks near (order ++ z ∷ [])
+next_push : (n ranks : ℕ) (near : ℕ → ℕ → Bool) (i : ℕ) (order : List ℕ) (z : ℕ) → 0 < ranks → AreNextFree n ranks near order
+    → InBlock n ranks i (length order) → IsNextFree n near order (drop (block_start n ranks i) order) z
+    → AreNextFree n ranks near (order ++ z ∷ [])
 next_push n ranks near i order z r h here next k q lk b = ⊎_elim
     (λ (e : k ≡ length order).
     let a : take k (order ++ z ∷ []) ≡ order = take-append-le k order (z ∷ []) (omega arith) ∙ take_all k order (omega arith) in
@@ -62,7 +64,9 @@ le_push : (order : List ℕ) (z a : ℕ) → a ≤ length order → a ≤ length
 le_push order z a l = let p = length_push order z in omega (arith, p, l)
 
 -- one more element taken
-pub growing_push : (n ranks : ℕ) (near : ℕ → ℕ → Bool) (i h : ℕ) (order : List ℕ) (seen : List Bool) (z : ℕ) → z < length seen → h ≤ length order → IsGrowing n ranks near i h order seen → length order < block_start n ranks (i + 1) → IsNextFree n near order (drop (block_start n ranks i) order) z → IsGrowing n ranks near i h (order ++ z ∷ []) (set seen z true)
+pub growing_push : (n ranks : ℕ) (near : ℕ → ℕ → Bool) (i h : ℕ) (order : List ℕ) (seen : List Bool) (z : ℕ) → z < length seen
+    → h ≤ length order → IsGrowing n ranks near i h order seen → length order < block_start n ranks (i + 1)
+    → IsNextFree n near order (drop (block_start n ranks i) order) z → IsGrowing n ranks near i h (order ++ z ∷ []) (set seen z true)
 growing_push n ranks near i h order seen z lz lh g short next = record {
   some = g.some;
   begun = le_push order z (block_start n ranks i) g.begun;
@@ -73,12 +77,17 @@ growing_push n ranks near i h order seen z lz lh g short next = record {
 }
 
 -- what isn't marked is no neighbour of the rank's elements before place h
-far_mine : (n ranks : ℕ) (near : ℕ → ℕ → Bool) (i h : ℕ) (order : List ℕ) (seen : List Bool) (s y : ℕ) → s ≡ block_start n ranks i → IsGrowing n ranks near i h order seen → length order < block_start n ranks (i + 1) → h ≤ length order → y < n → get_or seen y false ≡ false → (j : ℕ) → j < h - s → near (get_or (drop s order) j 0) y ≡ false
+far_mine : (n ranks : ℕ) (near : ℕ → ℕ → Bool) (i h : ℕ) (order : List ℕ) (seen : List Bool) (s y : ℕ) → s ≡ block_start n ranks i
+    → IsGrowing n ranks near i h order seen → length order < block_start n ranks (i + 1) → h ≤ length order → y < n
+    → get_or seen y false ≡ false → (j : ℕ) → j < h - s → near (get_or (drop s order) j 0) y ≡ false
 far_mine n ranks near i h order seen s y es g short lh ly f j lj = false_from_ne_true (near (get_or (drop s order) j 0) y) (λ t.
-    not_both (get_or seen y false) (g.closed short (s + j) y (subst (λ q. q ≤ s + j) es (omega arith)) (omega (arith, lj)) (omega (arith, lj, lh)) ly (subst (λ q. near q y ≡ true) (get_or-drop s order j 0) t)) f)
+    not_both (get_or seen y false) (g.closed short (s + j) y (subst (λ q. q ≤ s + j) es (omega arith)) (omega (arith, lj))
+        (omega (arith, lj, lh)) ly (subst (λ q. near q y ≡ true) (get_or-drop s order j 0) t)) f)
 
 -- the least element that isn't marked comes next where the rank's elements have no neighbour left
-pub next_start_free : (n ranks : ℕ) (near : ℕ → ℕ → Bool) (i : ℕ) (order : List ℕ) (seen : List Bool) (s z : ℕ) → s ≡ block_start n ranks i → IsWalk n near order seen 0 → IsGrowing n ranks near i (length order) order seen → length order < block_start n ranks (i + 1) → z < n → get_or seen z false ≡ false → ((y : ℕ) → y < z → get_or seen y false ≡ true) → IsNextFree n near order (drop s order) z
+pub next_start_free : (n ranks : ℕ) (near : ℕ → ℕ → Bool) (i : ℕ) (order : List ℕ) (seen : List Bool) (s z : ℕ) → s ≡ block_start n ranks i
+    → IsWalk n near order seen 0 → IsGrowing n ranks near i (length order) order seen → length order < block_start n ranks (i + 1) → z < n
+    → get_or seen z false ≡ false → ((y : ℕ) → y < z → get_or seen y false ≡ true) → IsNextFree n near order (drop s order) z
 next_start_free n ranks near i order seen s z es w g short lz f before =
     let len : length (drop s order) ≡ length order - s = length-drop s order in
     let none : (y : ℕ) → y < n → get_or seen y false ≡ false → earliest near (drop s order) y ≡ length (drop s order) = λ y ly fy.
@@ -95,7 +104,13 @@ next_start_free n ranks near i order seen s z es w g short lz f before =
     }
 
 -- the first neighbour of the element at place h that isn't marked comes next
-pub next_near_free : (n ranks : ℕ) (near : ℕ → ℕ → Bool) (i h : ℕ) (order : List ℕ) (seen : List Bool) (s k : ℕ) (items : List ℕ) → s ≡ block_start n ranks i → IsWalk n near order seen 0 → IsGrowing n ranks near i h order seen → length order < block_start n ranks (i + 1) → s ≤ h → h < length order → k < length items → get_or items k 0 < n → near (get_or order h 0) (get_or items k 0) ≡ true → get_or seen (get_or items k 0) false ≡ false → ((y : ℕ) → near (get_or order h 0) y ≡ true → get_or seen y false ≡ false → Contains items y) → ((j : ℕ) → j < k → get_or seen (get_or items j 0) false ≡ true) → Rises (λ v. v) items → IsNextFree n near order (drop s order) (get_or items k 0)
+pub next_near_free : (n ranks : ℕ) (near : ℕ → ℕ → Bool) (i h : ℕ) (order : List ℕ) (seen : List Bool) (s k : ℕ) (items : List ℕ)
+    → s ≡ block_start n ranks i → IsWalk n near order seen 0 → IsGrowing n ranks near i h order seen
+    → length order < block_start n ranks (i + 1) → s ≤ h → h < length order → k < length items → get_or items k 0 < n
+    → near (get_or order h 0) (get_or items k 0) ≡ true → get_or seen (get_or items k 0) false ≡ false
+    → ((y : ℕ) → near (get_or order h 0) y ≡ true → get_or seen y false ≡ false → Contains items y)
+    → ((j : ℕ) → j < k → get_or seen (get_or items j 0) false ≡ true) → Rises (λ v. v) items
+    → IsNextFree n near order (drop s order) (get_or items k 0)
 next_near_free n ranks near i h order seen s k items es w g short sh lh lk lz nz f all done rises =
     let z : ℕ = get_or items k 0 in
     let mine : List ℕ = drop s order in
@@ -103,7 +118,8 @@ next_near_free n ranks near i h order seen s k items es w g short sh lh lk lz nz
     let place : s + (h - s) ≡ h = omega (arith, sh) in
     let at : get_or mine (h - s) 0 ≡ get_or order h 0 = get_or-drop s order (h - s) 0 ∙ ap (λ q. get_or order q 0) place in
     let lm : h - s < length mine = omega (arith, len, sh, lh) in
-    let ez : earliest near mine z ≡ h - s = earliest_is n near mine z (h - s) lm (far_mine n ranks near i h order seen s z es g short (omega (arith, lh)) lz f) (subst (λ q. near q z ≡ true) (sym at) nz) in
+    let ez : earliest near mine z ≡ h - s = earliest_is n near mine z (h - s) lm
+        (far_mine n ranks near i h order seen s z es g short (omega (arith, lh)) lz f) (subst (λ q. near q z ≡ true) (sym at) nz) in
     record {
       within = lz;
       new = untaken n near order seen 0 z w f;
@@ -123,7 +139,10 @@ next_near_free n ranks near i h order seen s k items es w g short sh lh lk lz nz
     }
 
 -- all neighbours of one more of the rank's elements are marked
-pub growing_closed : (n ranks : ℕ) (near : ℕ → ℕ → Bool) (i h : ℕ) (order : List ℕ) (seen : List Bool) → IsGrowing n ranks near i h order seen → (length order < block_start n ranks (i + 1) → (y : ℕ) → near (get_or order h 0) y ≡ true → get_or seen y false ≡ true) → IsGrowing n ranks near i (h + 1) order seen
+pub growing_closed : (n ranks : ℕ) (near : ℕ → ℕ → Bool) (i h : ℕ) (order : List ℕ) (seen : List Bool)
+    → IsGrowing n ranks near i h order seen →
+    (length order < block_start n ranks (i + 1) → (y : ℕ) → near (get_or order h 0) y ≡ true → get_or seen y false ≡ true)
+    → IsGrowing n ranks near i (h + 1) order seen
 growing_closed n ranks near i h order seen g done = record {
   some = g.some;
   begun = g.begun;
@@ -140,9 +159,13 @@ pub record IsShare (n : ℕ) (near : ℕ → ℕ → Bool) (end head least : ℕ
   pub reached : head ≤ length order
   pub few : length order ≤ end
   pub before : (y : ℕ) → y < least → get_or seen y false ≡ true
-  pub grown : (ranks i : ℕ) → 0 < ranks → end ≡ block_start n ranks (i + 1) → length first ≡ block_start n ranks i → AreNextFree n ranks near first → (block_start n ranks i ≤ head) × IsGrowing n ranks near i head order seen
+  pub grown : (ranks i : ℕ) → 0 < ranks → end ≡ block_start n ranks (i + 1) → length first ≡ block_start n ranks i
+      → AreNextFree n ranks near first → (block_start n ranks i ≤ head) × IsGrowing n ranks near i head order seen
 
-pub share_start : (n : ℕ) (near : ℕ → ℕ → Bool) (end head least : ℕ) (first order : List ℕ) (seen : List Bool) (z : ℕ) → IsShare n near end head least first order seen → length order < end → head ≡ length order → z < length seen → get_or seen z false ≡ false → ((y : ℕ) → y < z → get_or seen y false ≡ true) → IsShare n near end head z first (order ++ z ∷ []) (set seen z true)
+pub share_start : (n : ℕ) (near : ℕ → ℕ → Bool) (end head least : ℕ) (first order : List ℕ) (seen : List Bool) (z : ℕ)
+    → IsShare n near end head least first order seen → length order < end → head ≡ length order → z < length seen
+    → get_or seen z false ≡ false → ((y : ℕ) → y < z → get_or seen y false ≡ true)
+    → IsShare n near end head z first (order ++ z ∷ []) (set seen z true)
 share_start n near end head least first order seen z h short eh ls f before =
     let lz : z < n = subst (λ q. z < q) h.walk.size ls in
     record {
@@ -158,7 +181,8 @@ share_start n near end head least first order seen z h short eh ls f before =
     }
 
 -- elements that stand at different places differ
-pub apart : (n ranks m : ℕ) (near : ℕ → ℕ → Bool) (order : List ℕ) → AreNextFree n ranks near order → length order ≡ block_start n ranks m → (j k : ℕ) → j < k → k < length order → get_or order j 0 ≢ get_or order k 0
+pub apart : (n ranks m : ℕ) (near : ℕ → ℕ → Bool) (order : List ℕ) → AreNextFree n ranks near order → length order ≡ block_start n ranks m
+    → (j k : ℕ) → j < k → k < length order → get_or order j 0 ≢ get_or order k 0
 apart n ranks m near order h e j k l lk = λ q.
     let b = in_some_block n ranks m k (subst (λ v. k < v) e lk) in
     let lt : length (take k order) ≡ k = length-take-le k order (omega (arith, lk)) in

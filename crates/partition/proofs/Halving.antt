@@ -28,7 +28,9 @@ count_all p xs n e h = ap (count_by p) (sym (take_all n xs (omega (arith, e)))) 
 -- each number stands once in the list of all elements
 pub all_once : (xs : List ℕ) (n : ℕ) → length xs ≡ n → ((k : ℕ) → k < n → get_or xs k 0 ≡ k) → (x : ℕ) → count_by (λ y. nat_eq y x) xs ≤ 1
 all_once xs n e h x =
-    let a : count_below n (λ y. nat_eq y x) ≡ min n (x + 1) - min n x = interval n x (x + 1) (λ y. nat_eq y x) (λ y l u v. eq-eqb y x (omega arith)) (λ y l t. (let q : y ≡ x = eqb-true y x t in (omega (arith, q), omega (arith, q)))) in
+    let a : count_below n (λ y. nat_eq y x) ≡ min n (x + 1) - min n x =
+        interval n x (x + 1) (λ y. nat_eq y x) (λ y l u v. eq-eqb y x (omega arith))
+        (λ y l t. (let q : y ≡ x = eqb-true y x t in (omega (arith, q), omega (arith, q)))) in
     rw (count_all (λ y. nat_eq y x) xs n e h) (omega (arith, a))
 
 -- where all pass, or none
@@ -55,7 +57,9 @@ all_no : (p : ℕ → Bool) (xs : List ℕ) → ((k : ℕ) → k < length xs →
 all_no p xs h = ap (count_by p) (sym (take_all (length xs) xs (omega arith))) ∙ count_no p xs (length xs) (omega arith) h
 
 -- of one rank that has all
-one_share : (n r lo many : ℕ) (f : ℕ → ℕ) (xs : List ℕ) (i : ℕ) → many ≡ 1 → length xs ≡ block_start n r (lo + many) - block_start n r lo → ((k : ℕ) → k < length xs → f (get_or xs k 0) ≡ lo) → (lo ≤ i → i < lo + many → count_by (λ x. nat_eq (f x) i) xs ≡ share n r i) × ((i < lo) ⊎ (lo + many ≤ i) → count_by (λ x. nat_eq (f x) i) xs ≡ 0)
+one_share : (n r lo many : ℕ) (f : ℕ → ℕ) (xs : List ℕ) (i : ℕ) → many ≡ 1 → length xs ≡ block_start n r (lo + many) - block_start n r lo
+    → ((k : ℕ) → k < length xs → f (get_or xs k 0) ≡ lo) → (lo ≤ i → i < lo + many → count_by (λ x. nat_eq (f x) i) xs ≡ share n r i)
+    × ((i < lo) ⊎ (lo + many ≤ i) → count_by (λ x. nat_eq (f x) i) xs ≡ 0)
 one_share n r lo many f xs i o e h = (
   λ a b. (let t : i ≡ lo = omega (arith, a, b, o) in
       let w : lo + many ≡ i + 1 = omega (arith, t, o) in
@@ -65,7 +69,10 @@ one_share n r lo many f xs i o e h = (
       all_no (λ x. nat_eq (f x) i) xs (λ k l. false_from_ne_true (nat_eq (f (get_or xs k 0)) i) (λ y. t (sym (eqb-true (f (get_or xs k 0)) i y) ∙ h k l)))),
 )
 
-none_share : (n r lo many : ℕ) (f : ℕ → ℕ) (xs : List ℕ) (i : ℕ) → 0 < r → length xs ≡ 0 → length xs ≡ block_start n r (lo + many) - block_start n r lo → (lo ≤ i → i < lo + many → count_by (λ x. nat_eq (f x) i) xs ≡ share n r i) × ((i < lo) ⊎ (lo + many ≤ i) → count_by (λ x. nat_eq (f x) i) xs ≡ 0)
+none_share : (n r lo many : ℕ) (f : ℕ → ℕ) (xs : List ℕ) (i : ℕ) → 0 < r → length xs ≡ 0
+    → length xs ≡ block_start n r (lo + many) - block_start n r lo
+    → (lo ≤ i → i < lo + many → count_by (λ x. nat_eq (f x) i) xs ≡ share n r i)
+    × ((i < lo) ⊎ (lo + many ≤ i) → count_by (λ x. nat_eq (f x) i) xs ≡ 0)
 none_share n r lo many f xs i l z e =
     let c : count_by (λ x. nat_eq (f x) i) xs ≤ length xs = count_by-le-length (λ x. nat_eq (f x) i) xs in (
       λ a b. (let p = start_le n r lo i l a in
@@ -76,7 +83,10 @@ none_share n r lo many f xs i l z e =
     )
 
 -- each rank has its share, and no other rank has any
-pub halved_shares : (depth n r : ℕ) (values : List ℤ) (dim : ℕ) (f : ℕ → ℕ) (lo many : ℕ) (xs : List ℕ) → 0 < r → length xs ≡ block_start n r (lo + many) - block_start n r lo → IsHalved depth n r values dim f lo many xs → (i : ℕ) → (lo ≤ i → i < lo + many → count_by (λ x. nat_eq (f x) i) xs ≡ share n r i) × ((i < lo) ⊎ (lo + many ≤ i) → count_by (λ x. nat_eq (f x) i) xs ≡ 0)
+pub halved_shares : (depth n r : ℕ) (values : List ℤ) (dim : ℕ) (f : ℕ → ℕ) (lo many : ℕ) (xs : List ℕ) → 0 < r
+    → length xs ≡ block_start n r (lo + many) - block_start n r lo → IsHalved depth n r values dim f lo many xs → (i : ℕ)
+    → (lo ≤ i → i < lo + many → count_by (λ x. nat_eq (f x) i) xs ≡ share n r i)
+    × ((i < lo) ⊎ (lo + many ≤ i) → count_by (λ x. nat_eq (f x) i) xs ≡ 0)
 halved_shares zero n r values dim f lo many xs l e h i = absurd h
 halved_shares (suc depth) n r values dim f lo many xs l e h i = ⊎_elim
     (λ o. one_share n r lo many f xs i o.0 e o.1)
@@ -108,11 +118,13 @@ whole n r l =
     let s : 0 + r ≡ r = omega arith in
     rw s (omega (arith, a, b))
 
-pub bisected : (n r : ℕ) (values : List ℤ) (dim : ℕ) (owners xs : List ℕ) → 0 < r → length xs ≡ n → ((x : ℕ) → x < n → get_or xs x 0 ≡ x) → IsHalved r n r values dim (λ x. get_or owners x 0) 0 r xs → IsBisected n r values dim owners
+pub bisected : (n r : ℕ) (values : List ℤ) (dim : ℕ) (owners xs : List ℕ) → 0 < r → length xs ≡ n → ((x : ℕ) → x < n → get_or xs x 0 ≡ x)
+    → IsHalved r n r values dim (λ x. get_or owners x 0) 0 r xs → IsBisected n r values dim owners
 bisected n r values dim owners xs l e each h = record {
   elements = xs;
   size = e;
   each = each;
   halved = h;
-  shares = λ i li. sym (count_all (λ x. nat_eq (get_or owners x 0) i) xs n e each) ∙ (halved_shares r n r values dim (λ x. get_or owners x 0) 0 r xs l (e ∙ whole n r l) h i).0 (omega arith) (omega (arith, li));
+  shares = λ i li. sym (count_all (λ x. nat_eq (get_or owners x 0) i) xs n e each)
+      ∙ (halved_shares r n r values dim (λ x. get_or owners x 0) 0 r xs l (e ∙ whole n r l) h i).0 (omega arith) (omega (arith, li));
 }

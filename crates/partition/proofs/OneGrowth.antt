@@ -26,7 +26,8 @@ all_distinct (x ∷ xs) h = (none_is x xs (λ j l e. h zero (suc j) (omega arith
 has_any : (q : ℕ) (xs : List ℕ) → list_any (eqb q) xs ≡ true → (j : ℕ) × (j < length xs) × (get_or xs j 0 ≡ q)
 has_any q xs e = let c : Contains xs q = Contains-from_any eqb-true q xs e in (c.0, c.1, get_or_default xs c.0 0 q c.1 ∙ c.2)
 
-pub fills : (n : ℕ) (xs : List ℕ) → length xs ≡ n → ((k : ℕ) → k < n → get_or xs k 0 < n) → ((i j : ℕ) → i < j → j < length xs → get_or xs i 0 ≢ get_or xs j 0) → (y : ℕ) → y < n → (k : ℕ) × (k < n) × (get_or xs k 0 ≡ y)
+pub fills : (n : ℕ) (xs : List ℕ) → length xs ≡ n → ((k : ℕ) → k < n → get_or xs k 0 < n)
+    → ((i j : ℕ) → i < j → j < length xs → get_or xs i 0 ≢ get_or xs j 0) → (y : ℕ) → y < n → (k : ℕ) × (k < n) × (get_or xs k 0 ≡ y)
 unfolding IsDistinct
 fills n xs len within apart y ly = ⊎_elim
     (λ (e : list_any (eqb y) xs ≡ true). let c = has_any y xs e in (c.0, omega (arith, c.1), c.2))

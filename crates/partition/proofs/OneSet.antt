@@ -12,7 +12,9 @@ all_ok P Q (Ok o) f h = f o h
 all_ok P Q (Err e) f h = h
 
 -- where one set alone is known
-pub derived_one : (g : MeshValue) (o : Owners) (known : List Bool) (sets : List (List ℕ)) (t : ℕ) (xs : List ℕ) → ((s : ℕ) → s < set_count g → get_or known s false ≡ nat_eq s t) → get_or sets t [] ≡ xs → AreDerived g o (λ s. get_or known s false) (λ s. get_or sets s []) → AreDerived g o (λ s. nat_eq s t) (λ s. xs)
+pub derived_one : (g : MeshValue) (o : Owners) (known : List Bool) (sets : List (List ℕ)) (t : ℕ) (xs : List ℕ)
+    → ((s : ℕ) → s < set_count g → get_or known s false ≡ nat_eq s t) → get_or sets t [] ≡ xs
+    → AreDerived g o (λ s. get_or known s false) (λ s. get_or sets s []) → AreDerived g o (λ s. nat_eq s t) (λ s. xs)
 derived_one g o known sets t xs agree at h = record {
   owners = h.owners;
   turn = h.turn;

@@ -54,7 +54,8 @@ cut_of values dim many xs ys lower upper perm h = record {
 }
 
 -- they are halved the same
-pub halved_of : (depth n ranks : ℕ) (values : List ℤ) (dim : ℕ) (f : ℕ → ℕ) (lo many : ℕ) (xs ys : List ℕ) → IsPermutation xs ys → IsHalved depth n ranks values dim f lo many xs → IsHalved depth n ranks values dim f lo many ys
+pub halved_of : (depth n ranks : ℕ) (values : List ℤ) (dim : ℕ) (f : ℕ → ℕ) (lo many : ℕ) (xs ys : List ℕ) → IsPermutation xs ys
+    → IsHalved depth n ranks values dim f lo many xs → IsHalved depth n ranks values dim f lo many ys
 halved_of zero n ranks values dim f lo many xs ys perm h = h
 halved_of (suc depth) n ranks values dim f lo many xs ys perm h = ⊎_elim
     (λ o. inl (o.0, each_of (λ x. f x ≡ lo) xs ys perm o.1))
@@ -67,7 +68,8 @@ halved_of (suc depth) n ranks values dim f lo many xs ys perm h = ⊎_elim
 -- ---- a parted list
 
 -- its parts in order are a cut
-pub parted_cut : (values : List ℤ) (dim many : ℕ) (xs ys : List ℕ) → many ≤ length xs → IsParted values dim many xs ys → (lower : List ℕ) × (upper : List ℕ) × IsCut values dim many xs lower upper × IsPermutation (take many ys) lower × IsPermutation (drop many ys) upper
+pub parted_cut : (values : List ℤ) (dim many : ℕ) (xs ys : List ℕ) → many ≤ length xs → IsParted values dim many xs ys → (lower : List ℕ)
+    × (upper : List ℕ) × IsCut values dim many xs lower upper × IsPermutation (take many ys) lower × IsPermutation (drop many ys) upper
 parted_cut values dim many xs ys l h =
     let key : ℕ → ℕ = height values dim h.axis in
     let front : List ℕ = take many ys in
@@ -95,10 +97,14 @@ parted_cut values dim many xs ys l h =
       q.1,
     )
   where
-    parted_before : (key : ℕ → ℕ) (many : ℕ) (ys : List ℕ) → ((i j : ℕ) → i < many → many ≤ j → j < length ys → Before key (get_or ys i 0) (get_or ys j 0)) → (k : ℕ) → k < many → (j : ℕ) → j < length ys - many → Before key (get_or (take many ys) k 0) (get_or (drop many ys) j 0)
+    parted_before : (key : ℕ → ℕ) (many : ℕ) (ys : List ℕ)
+        → ((i j : ℕ) → i < many → many ≤ j → j < length ys → Before key (get_or ys i 0) (get_or ys j 0)) → (k : ℕ) → k < many → (j : ℕ)
+        → j < length ys - many → Before key (get_or (take many ys) k 0) (get_or (drop many ys) j 0)
     parted_before key many ys b k lk j lj = rw (get_or-take many ys k 0 lk, get_or-drop many ys j 0) (b k (many + j) lk (omega arith) (omega arith))
 
-    joined_order : (key : ℕ → ℕ) (lower upper : List ℕ) → InOrder key lower → InOrder key upper → ((i : ℕ) → i < length lower → (j : ℕ) → j < length upper → Before key (get_or lower i 0) (get_or upper j 0)) → InOrder key (lower ++ upper)
+    joined_order : (key : ℕ → ℕ) (lower upper : List ℕ) → InOrder key lower → InOrder key upper
+        → ((i : ℕ) → i < length lower → (j : ℕ) → j < length upper → Before key (get_or lower i 0) (get_or upper j 0))
+        → InOrder key (lower ++ upper)
     joined_order key lower upper low high across i j l m =
         let n = length-append lower upper in
         ⊎_elim
@@ -121,7 +127,15 @@ pub parted_parts : (values : List ℤ) (dim many : ℕ) (xs ys lower upper : Lis
 parted_parts values dim many xs ys lower upper h p q = rw (p, q, take-append-drop many ys) h.along.same
 
 -- after the lower part has its owners, and then the upper
-pub halved_parted : (depth n ranks : ℕ) (values : List ℤ) (dim : ℕ) (f g : ℕ → ℕ) (lo many : ℕ) (xs ys lower upper : List ℕ) → 1 < many → block_start n ranks (lo + many / 2) - block_start n ranks lo ≤ length xs → IsParted values dim (block_start n ranks (lo + many / 2) - block_start n ranks lo) xs ys → lower ≡ take (block_start n ranks (lo + many / 2) - block_start n ranks lo) ys → upper ≡ drop (block_start n ranks (lo + many / 2) - block_start n ranks lo) ys → ((x : ℕ) → count_by (λ y. nat_eq y x) xs ≤ 1) → ((d : ℕ) → many / 2 ≤ d → IsHalved d n ranks values dim f lo (many / 2) lower) → ((x : ℕ) → ((k : ℕ) → k < length upper → get_or upper k 0 ≢ x) → g x ≡ f x) → ((d : ℕ) → many - many / 2 ≤ d → IsHalved d n ranks values dim g (lo + many / 2) (many - many / 2) upper) → many ≤ depth → IsHalved depth n ranks values dim g lo many xs
+pub halved_parted : (depth n ranks : ℕ) (values : List ℤ) (dim : ℕ) (f g : ℕ → ℕ) (lo many : ℕ) (xs ys lower upper : List ℕ) → 1 < many
+    → block_start n ranks (lo + many / 2) - block_start n ranks lo ≤ length xs
+    → IsParted values dim (block_start n ranks (lo + many / 2) - block_start n ranks lo) xs ys
+    → lower ≡ take (block_start n ranks (lo + many / 2) - block_start n ranks lo) ys
+    → upper ≡ drop (block_start n ranks (lo + many / 2) - block_start n ranks lo) ys → ((x : ℕ) → count_by (λ y. nat_eq y x) xs ≤ 1)
+    → ((d : ℕ) → many / 2 ≤ d → IsHalved d n ranks values dim f lo (many / 2) lower)
+    → ((x : ℕ) → ((k : ℕ) → k < length upper → get_or upper k 0 ≢ x) → g x ≡ f x)
+    → ((d : ℕ) → many - many / 2 ≤ d → IsHalved d n ranks values dim g (lo + many / 2) (many - many / 2) upper) → many ≤ depth
+    → IsHalved depth n ranks values dim g lo many xs
 halved_parted depth n ranks values dim f g lo many xs ys lower upper o fits h p q once a kept b l =
     let c = parted_cut values dim (block_start n ranks (lo + many / 2) - block_start n ranks lo) xs ys fits h in
     let low : IsPermutation lower c.0 = subst (λ (z : List ℕ). IsPermutation z c.0) (sym p) c.3 in

@@ -48,7 +48,8 @@ stands xs k x l e =
     subst (λ b. cond b 1 0 ≤ count_by (λ y. nat_eq y x) xs) t a
 
 -- the parts have no element in common
-pub apart : (xs lower upper : List ℕ) → IsPermutation xs (lower ++ upper) → ((x : ℕ) → count_by (λ y. nat_eq y x) xs ≤ 1) → (k : ℕ) → k < length lower → (j : ℕ) → j < length upper → get_or upper j 0 ≢ get_or lower k 0
+pub apart : (xs lower upper : List ℕ) → IsPermutation xs (lower ++ upper) → ((x : ℕ) → count_by (λ y. nat_eq y x) xs ≤ 1) → (k : ℕ)
+    → k < length lower → (j : ℕ) → j < length upper → get_or upper j 0 ≢ get_or lower k 0
 apart xs lower upper perm h k l j m = λ e.
     (let x : ℕ = get_or lower k 0 in
     let a = both_count (λ y. cond (nat_eq y x) 1 0) xs lower upper perm in
@@ -58,7 +59,9 @@ apart xs lower upper perm h k l j m = λ e.
     omega (arith, a, b, p, q))
 
 -- owners that agree on a list's elements
-pub same_halved : (depth n ranks : ℕ) (values : List ℤ) (dim : ℕ) (f g : ℕ → ℕ) (lo many : ℕ) (xs : List ℕ) → ((k : ℕ) → k < length xs → g (get_or xs k 0) ≡ f (get_or xs k 0)) → IsHalved depth n ranks values dim f lo many xs → IsHalved depth n ranks values dim g lo many xs
+pub same_halved : (depth n ranks : ℕ) (values : List ℤ) (dim : ℕ) (f g : ℕ → ℕ) (lo many : ℕ) (xs : List ℕ)
+    → ((k : ℕ) → k < length xs → g (get_or xs k 0) ≡ f (get_or xs k 0)) → IsHalved depth n ranks values dim f lo many xs
+    → IsHalved depth n ranks values dim g lo many xs
 same_halved zero n ranks values dim f g lo many xs e h = h
 same_halved (suc depth) n ranks values dim f g lo many xs e h = ⊎_elim
     (λ o. inl (o.0, λ k l. e k l ∙ o.1 k l))
@@ -75,7 +78,8 @@ same_halved (suc depth) n ranks values dim f g lo many xs e h = ⊎_elim
     r))
     h
 
-pub halved_one : (depth n ranks : ℕ) (values : List ℤ) (dim : ℕ) (f : ℕ → ℕ) (lo many : ℕ) (xs : List ℕ) → many ≡ 1 → many ≤ depth → ((k : ℕ) → k < length xs → f (get_or xs k 0) ≡ lo) → IsHalved depth n ranks values dim f lo many xs
+pub halved_one : (depth n ranks : ℕ) (values : List ℤ) (dim : ℕ) (f : ℕ → ℕ) (lo many : ℕ) (xs : List ℕ) → many ≡ 1 → many ≤ depth
+    → ((k : ℕ) → k < length xs → f (get_or xs k 0) ≡ lo) → IsHalved depth n ranks values dim f lo many xs
 halved_one zero n ranks values dim f lo many xs o l h = absurd (omega arith)
 halved_one (suc depth) n ranks values dim f lo many xs o l h = inl (o, h)
 
@@ -84,7 +88,12 @@ halved_none zero n ranks values dim f lo many xs o l h = absurd (omega arith)
 halved_none (suc depth) n ranks values dim f lo many xs o l h = inr (inl h)
 
 -- after the lower part has its owners, and then the upper
-pub halved_both : (depth n ranks : ℕ) (values : List ℤ) (dim : ℕ) (f g : ℕ → ℕ) (lo many : ℕ) (xs lower upper : List ℕ) → 1 < many → IsCut values dim (block_start n ranks (lo + many / 2) - block_start n ranks lo) xs lower upper → ((x : ℕ) → count_by (λ y. nat_eq y x) xs ≤ 1) → ((d : ℕ) → many / 2 ≤ d → IsHalved d n ranks values dim f lo (many / 2) lower) → ((x : ℕ) → ((k : ℕ) → k < length upper → get_or upper k 0 ≢ x) → g x ≡ f x) → ((d : ℕ) → many - many / 2 ≤ d → IsHalved d n ranks values dim g (lo + many / 2) (many - many / 2) upper) → many ≤ depth → IsHalved depth n ranks values dim g lo many xs
+pub halved_both : (depth n ranks : ℕ) (values : List ℤ) (dim : ℕ) (f g : ℕ → ℕ) (lo many : ℕ) (xs lower upper : List ℕ) → 1 < many
+    → IsCut values dim (block_start n ranks (lo + many / 2) - block_start n ranks lo) xs lower upper
+    → ((x : ℕ) → count_by (λ y. nat_eq y x) xs ≤ 1) → ((d : ℕ) → many / 2 ≤ d → IsHalved d n ranks values dim f lo (many / 2) lower)
+    → ((x : ℕ) → ((k : ℕ) → k < length upper → get_or upper k 0 ≢ x) → g x ≡ f x)
+    → ((d : ℕ) → many - many / 2 ≤ d → IsHalved d n ranks values dim g (lo + many / 2) (many - many / 2) upper) → many ≤ depth
+    → IsHalved depth n ranks values dim g lo many xs
 halved_both zero n ranks values dim f g lo many xs lower upper o c once a kept b l = absurd (omega arith)
 halved_both (suc depth) n ranks values dim f g lo many xs lower upper o c once a kept b l = inr (inr (
   o,
@@ -96,7 +105,9 @@ halved_both (suc depth) n ranks values dim f g lo many xs lower upper o c once a
 ))
 
 -- the upper part is as long as the upper ranks' shares
-pub upper_share : (n r lo many a b c : ℕ) → 0 < r → a + b ≡ c → a ≡ block_start n r (lo + many / 2) - block_start n r lo → c ≡ block_start n r (lo + many) - block_start n r lo → b ≡ block_start n r (lo + many / 2 + (many - many / 2)) - block_start n r (lo + many / 2)
+pub upper_share : (n r lo many a b c : ℕ) → 0 < r → a + b ≡ c → a ≡ block_start n r (lo + many / 2) - block_start n r lo
+    → c ≡ block_start n r (lo + many) - block_start n r lo
+    → b ≡ block_start n r (lo + many / 2 + (many - many / 2)) - block_start n r (lo + many / 2)
 upper_share n r lo many a b c l e p q =
     let s : lo + many / 2 + (many - many / 2) ≡ lo + many = omega arith in
     let u : block_start n r lo ≤ block_start n r (lo + many / 2) = start_le n r lo (lo + many / 2) l (omega arith) in

@@ -33,7 +33,8 @@ block_end : (n ranks i : ℕ) → i < ranks → block_start n ranks (i + 1) ≤ 
 block_end n ranks i l = div-le_of_le-mul ranks {m = (i + 1) * n} {n = n} (mul-le-mul_right {m = i + 1} {n = ranks} n (omega arith))
 
 -- a rank has as many elements as its block is long
-pub share_count : (n ranks i : ℕ) (f : ℕ → ℕ) → i < ranks → ((x : ℕ) → x < n → InBlock n ranks (f x) x) → ((x k : ℕ) → x < n → InBlock n ranks k x → k ≡ f x) → count_below n (λ x. nat_eq (f x) i) ≡ share n ranks i
+pub share_count : (n ranks i : ℕ) (f : ℕ → ℕ) → i < ranks → ((x : ℕ) → x < n → InBlock n ranks (f x) x)
+    → ((x k : ℕ) → x < n → InBlock n ranks k x → k ≡ f x) → count_below n (λ x. nat_eq (f x) i) ≡ share n ranks i
 share_count n ranks i f l block only =
     let e : block_start n ranks (i + 1) ≤ n = block_end n ranks i l in
     let m : min n (block_start n ranks (i + 1)) - min n (block_start n ranks i) ≡ block_start n ranks (i + 1) - block_start n ranks i = omega (arith, e) in

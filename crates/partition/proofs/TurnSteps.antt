@@ -77,7 +77,8 @@ next_unknown g ranks o known s xs h = ⊎_elim
     h
 
 -- a rule's choice stands on the owners of the sets that had some
-pub next_kept : (g : MeshValue) (ranks : ℕ) (o o' : ℕ → List ℕ) (known : ℕ → Bool) (s : ℕ) (xs : List ℕ) → IsNextSet g ranks o known s xs → ((t : ℕ) → known t ≡ true → o t ≡ o' t) → IsNextSet g ranks o' known s xs
+pub next_kept : (g : MeshValue) (ranks : ℕ) (o o' : ℕ → List ℕ) (known : ℕ → Bool) (s : ℕ) (xs : List ℕ) → IsNextSet g ranks o known s xs
+    → ((t : ℕ) → known t ≡ true → o t ≡ o' t) → IsNextSet g ranks o' known s xs
 next_kept g ranks o o' known s xs h same = ⊎_elim
     (λ (r : IsByTargets g ranks o known s xs).
     let k : known (map_to g r.map) ≡ true = (and_parts (nat_eq (map_from g r.map) s) (known (map_to g r.map)) r.next.1.passes).1 in
@@ -90,21 +91,29 @@ next_kept g ranks o o' known s xs h same = ⊎_elim
     k))
     h
 
-pub turn_init : (g : MeshValue) (ranks : ℕ) (items : List (List ℕ)) (known : List Bool) → AreKnown g ranks items known → IsTurn g ranks 0 (λ s. get_or known s false) (λ s. get_or items s []) items known
+pub turn_init : (g : MeshValue) (ranks : ℕ) (items : List (List ℕ)) (known : List Bool) → AreKnown g ranks items known
+    → IsTurn g ranks 0 (λ s. get_or known s false) (λ s. get_or items s []) items known
 turn_init g ranks items known h = record {
   facts = h;
   many = omega arith;
   at = λ s. cond (get_or known s false) 0 (set_count g + 1);
   turns = λ s. ⊎_elim (λ (e : get_or known s false ≡ true). rw e (inl (omega arith, refl))) (λ (e : get_or known s false ≡ false). rw e (inr (refl, refl))) (cases_Bool (get_or known s false));
-  first = λ s l. ⊎_elim (λ (e : get_or known s false ≡ true). rw e refl) (λ (e : get_or known s false ≡ false). rw e (sym (ne_eqb (set_count g + 1) 0 (λ z. omega (arith, z))))) (cases_Bool (get_or known s false));
+  first = λ s l. ⊎_elim (λ (e : get_or known s false ≡ true). rw e refl)
+      (λ (e : get_or known s false ≡ false). rw e (sym (ne_eqb (set_count g + 1) 0 (λ z. omega (arith, z)))))
+      (cases_Bool (get_or known s false));
   kept = λ s l k. refl;
   next = λ s l a b. clash (get_or known s false) b a;
 }
 
-pub turn_none : (g : MeshValue) (ranks turn : ℕ) (known0 : ℕ → Bool) (sets0 : ℕ → List ℕ) (items : List (List ℕ)) (known : List Bool) → turn < set_count g → IsTurn g ranks turn known0 sets0 items known → any_below (set_count g) (λ s. not (get_or known s false)) ≡ false → IsTurn g ranks (turn + 1) known0 sets0 items known
+pub turn_none : (g : MeshValue) (ranks turn : ℕ) (known0 : ℕ → Bool) (sets0 : ℕ → List ℕ) (items : List (List ℕ)) (known : List Bool)
+    → turn < set_count g → IsTurn g ranks turn known0 sets0 items known → any_below (set_count g) (λ s. not (get_or known s false)) ≡ false
+    → IsTurn g ranks (turn + 1) known0 sets0 items known
 turn_none g ranks turn known0 sets0 items known l h none = record {
   facts = h.facts;
-  many = (let e : count_below (set_count g) (λ s. get_or known s false) ≡ set_count g = count_all (set_count g) (λ s. get_or known s false) (λ j lj. not-false (get_or known j false) (none_passes (set_count g) (λ s. not (get_or known s false)) none j lj)) in omega (arith, e, l));
+  many = (let e : count_below (set_count g) (λ s. get_or known s false) ≡ set_count g =
+      count_all (set_count g) (λ s. get_or known s false)
+      (λ j lj. not-false (get_or known j false) (none_passes (set_count g) (λ s. not (get_or known s false)) none j lj)) in
+      omega (arith, e, l));
   at = h.at;
   turns = λ s. ⊎_elim (λ (k : (h.at s ≤ turn) × (get_or known s false ≡ true)). inl (omega (arith, k.0), k.1)) (λ k. inr k) (h.turns s);
   first = h.first;
@@ -112,7 +121,8 @@ turn_none g ranks turn known0 sets0 items known l h none = record {
   next = h.next;
 }
 
-pub turn_done : (g : MeshValue) (o : Owners) (known0 : ℕ → Bool) (sets0 : ℕ → List ℕ) (known : List Bool) → 0 < o.ranks → o.ranks ≤ 64 → IsTurn g o.ranks (set_count g) known0 sets0 o.sets.items known → AreDerived g o known0 sets0
+pub turn_done : (g : MeshValue) (o : Owners) (known0 : ℕ → Bool) (sets0 : ℕ → List ℕ) (known : List Bool) → 0 < o.ranks → o.ranks ≤ 64
+    → IsTurn g o.ranks (set_count g) known0 sets0 o.sets.items known → AreDerived g o known0 sets0
 unfolding owners_in owner_of
 turn_done g o known0 sets0 known some few h =
     let all : (s : ℕ) → s < set_count g → get_or known s false ≡ true = count_full (set_count g) (λ s. get_or known s false) h.many in
@@ -131,7 +141,10 @@ turn_done g o known0 sets0 known some few h =
     }
 
 -- another set gets owners
-pub turn_step : (g : MeshValue) (ranks turn : ℕ) (known0 : ℕ → Bool) (sets0 : ℕ → List ℕ) (items : List (List ℕ)) (known : List Bool) (s : ℕ) (xs : List ℕ) → turn < set_count g → IsTurn g ranks turn known0 sets0 items known → IsNextSet g ranks (λ t. get_or items t []) (λ t. get_or known t false) s xs → length xs ≡ set_size g s → ((x : ℕ) → x < set_size g s → get_or xs x 0 < ranks) → IsTurn g ranks (turn + 1) known0 sets0 (set items s xs) (set known s true)
+pub turn_step : (g : MeshValue) (ranks turn : ℕ) (known0 : ℕ → Bool) (sets0 : ℕ → List ℕ) (items : List (List ℕ)) (known : List Bool)
+    (s : ℕ) (xs : List ℕ) → turn < set_count g → IsTurn g ranks turn known0 sets0 items known
+    → IsNextSet g ranks (λ t. get_or items t []) (λ t. get_or known t false) s xs → length xs ≡ set_size g s
+    → ((x : ℕ) → x < set_size g s → get_or xs x 0 < ranks) → IsTurn g ranks (turn + 1) known0 sets0 (set items s xs) (set known s true)
 turn_step g ranks turn known0 sets0 items known s xs l h choice len below =
     let unknown = next_unknown g ranks (λ t. get_or items t []) (λ t. get_or known t false) s xs choice in
     let ls : s < length items = rw h.facts.each_set unknown.0 in
@@ -141,16 +154,22 @@ turn_step g ranks turn known0 sets0 items known s xs l h choice len below =
     let there : (t : ℕ) → (t ≡ s → ⊥) → get_or (set items s xs) t [] ≡ get_or items t [] = λ t n. get_or-set_other items s t xs [] n in
     let is : get_or (set known s true) s false ≡ true = get_or-set_same known s true false lk in
     let others : (t : ℕ) → (t ≡ s → ⊥) → get_or (set known s true) t false ≡ get_or known t false = λ t n. get_or-set_other known s t true false n in
-    let late : h.at s ≡ set_count g + 1 = ⊎_elim (λ (k : (h.at s ≤ turn) × (get_or known s false ≡ true)). clash (get_or known s false) k.1 was) (λ (k : (h.at s ≡ set_count g + 1) × (get_or known s false ≡ false)). k.0) (h.turns s) in
+    let late : h.at s ≡ set_count g + 1 = ⊎_elim
+        (λ (k : (h.at s ≤ turn) × (get_or known s false ≡ true)). clash (get_or known s false) k.1 was)
+        (λ (k : (h.at s ≡ set_count g + 1) × (get_or known s false ≡ false)). k.0) (h.turns s) in
     let turn' : ℕ → ℕ = λ t. cond (nat_eq t s) (turn + 1) (h.at t) in
     let at_s : turn' s ≡ turn + 1 = rw (eq-eqb s s refl) refl in
     let at_t : (t : ℕ) → (t ≡ s → ⊥) → turn' t ≡ h.at t = λ t n. rw (ne_eqb t s n) refl in
     let given0 : known0 s ≡ false = h.first s unknown.0 ∙ ne_eqb (h.at s) 0 (λ z. omega (arith, z, late)) in
     let old : ℕ → List ℕ = λ t. get_or items t [] in
     let new : ℕ → List ℕ = λ t. get_or (set items s xs) t [] in
-    let soon : (t : ℕ) → get_or known t false ≡ true → h.at t ≤ turn = λ t k. ⊎_elim (λ (a : (h.at t ≤ turn) × (get_or known t false ≡ true)). a.0) (λ (a : (h.at t ≡ set_count g + 1) × (get_or known t false ≡ false)). clash (get_or known t false) k a.1) (h.turns t) in
+    let soon : (t : ℕ) → get_or known t false ≡ true → h.at t ≤ turn =
+        λ t k. ⊎_elim (λ (a : (h.at t ≤ turn) × (get_or known t false ≡ true)). a.0)
+        (λ (a : (h.at t ≡ set_count g + 1) × (get_or known t false ≡ false)). clash (get_or known t false) k a.1) (h.turns t) in
     let not_self : (t : ℕ) → turn' t ≤ turn + 1 → nat_lt (turn' s) (turn' t) ≡ false = λ t a. lt_false (turn' s) (turn' t) (rw at_s a) in
-    let same : (t : ℕ) → turn' t ≤ turn + 1 → (u : ℕ) → nat_lt (turn' u) (turn' t) ≡ true → old u ≡ new u = λ t a u b. sym (there u (λ e. clash (nat_lt (turn' u) (turn' t)) b (subst (λ z. nat_lt (turn' z) (turn' t) ≡ false) (sym e) (not_self t a)))) in
+    let same : (t : ℕ) → turn' t ≤ turn + 1 → (u : ℕ) → nat_lt (turn' u) (turn' t) ≡ true → old u ≡ new u =
+        λ t a u b. sym (there u (λ e. clash (nat_lt (turn' u) (turn' t)) b
+        (subst (λ z. nat_lt (turn' z) (turn' t) ≡ false) (sym e) (not_self t a)))) in
     let agree_s : (u : ℕ) → get_or known u false ≡ nat_lt (turn' u) (turn' s) = λ u. ⊎_elim
     (λ (e : u ≡ s). subst (λ z. get_or known z false ≡ nat_lt (turn' z) (turn' s)) (sym e) (was ∙ sym (lt_false (turn' s) (turn' s) (omega arith))))
     (λ (n : u ≡ s → ⊥). rw (at_t u n, at_s) (⊎_elim
@@ -162,12 +181,16 @@ turn_step g ranks turn known0 sets0 items known s xs l h choice len below =
     subst (λ (z : List ℕ). IsNextSet g ranks new (λ u. nat_lt (turn' u) (turn' s)) s z) (sym here)
     (next_kept g ranks old new (λ u. nat_lt (turn' u) (turn' s)) s xs (subst (λ (p : ℕ → Bool). IsNextSet g ranks old p s xs) (fun_ext agree_s) choice) (same s (rw at_s (omega arith)))) in
     let agree_t : (t : ℕ) → (t ≡ s → ⊥) → h.at t ≤ turn → (u : ℕ) → nat_lt (h.at u) (h.at t) ≡ nat_lt (turn' u) (turn' t) = λ t n a u. ⊎_elim
-    (λ (e : u ≡ s). subst (λ z. nat_lt (h.at z) (h.at t) ≡ nat_lt (turn' z) (turn' t)) (sym e) (lt_false (h.at s) (h.at t) (omega (arith, late, a, l)) ∙ sym (not_self t (rw (at_t t n) (omega (arith, a))))))
+    (λ (e : u ≡ s). subst (λ z. nat_lt (h.at z) (h.at t) ≡ nat_lt (turn' z) (turn' t)) (sym e)
+        (lt_false (h.at s) (h.at t) (omega (arith, late, a, l)) ∙ sym (not_self t (rw (at_t t n) (omega (arith, a))))))
     (λ (m : u ≡ s → ⊥). rw (at_t u m, at_t t n) refl)
     (cases_eq u s) in
-    let next_t : (t : ℕ) → (t ≡ s → ⊥) → IsNextSet g ranks old (λ u. nat_lt (h.at u) (h.at t)) t (old t) → h.at t ≤ turn → IsNextSet g ranks new (λ u. nat_lt (turn' u) (turn' t)) t (new t) = λ t n b a.
+    let next_t : (t : ℕ) → (t ≡ s → ⊥) → IsNextSet g ranks old (λ u. nat_lt (h.at u) (h.at t)) t (old t) → h.at t ≤ turn
+        → IsNextSet g ranks new (λ u. nat_lt (turn' u) (turn' t)) t (new t) = λ t n b a.
     subst (λ (z : List ℕ). IsNextSet g ranks new (λ u. nat_lt (turn' u) (turn' t)) t z) (sym (there t n))
-    (next_kept g ranks old new (λ u. nat_lt (turn' u) (turn' t)) t (old t) (subst (λ (p : ℕ → Bool). IsNextSet g ranks old p t (old t)) (fun_ext (agree_t t n a)) b) (same t (rw (at_t t n) (omega (arith, a))))) in
+    (next_kept g ranks old new (λ u. nat_lt (turn' u) (turn' t)) t (old t)
+        (subst (λ (p : ℕ → Bool). IsNextSet g ranks old p t (old t)) (fun_ext (agree_t t n a)) b)
+        (same t (rw (at_t t n) (omega (arith, a))))) in
     record {
       facts = record {
         each_set = length-set items s xs ∙ h.facts.each_set;
@@ -175,7 +198,9 @@ turn_step g ranks turn known0 sets0 items known s xs l h choice len below =
         lengths = λ t lt k. ⊎_elim (λ (e : t ≡ s). rw (e, here) len) (λ (n : t ≡ s → ⊥). rw (there t n) (h.facts.lengths t lt (sym (others t n) ∙ k))) (cases_eq t s);
         below = λ t x lt k lx. ⊎_elim (λ (e : t ≡ s). rw (e, here) (below x (rw e at lx))) (λ (n : t ≡ s → ⊥). rw (there t n) (h.facts.below t x lt (sym (others t n) ∙ k) lx)) (cases_eq t s);
       };
-      many = (let e : count_below (set_count g) (λ t. get_or (set known s true) t false) ≡ count_below (set_count g) (λ t. get_or known t false) + 1 = count_set (set_count g) s (λ t. get_or known t false) (λ t. get_or (set known s true) t false) unknown.0 was is others in let m = h.many in omega (arith, e, m));
+      many = (let e : count_below (set_count g) (λ t. get_or (set known s true) t false) ≡ count_below (set_count g)
+          (λ t. get_or known t false) + 1 = count_set (set_count g) s (λ t. get_or known t false) (λ t. get_or (set known s true) t false)
+          unknown.0 was is others in let m = h.many in omega (arith, e, m));
       at = turn';
       turns = λ t. ⊎_elim
           (λ (e : t ≡ s). inl (subst (λ z. turn' z ≤ turn + 1) (sym e) (rw at_s (omega arith)), subst (λ z. get_or (set known s true) z false ≡ true) (sym e) is))
@@ -189,5 +214,6 @@ turn_step g ranks turn known0 sets0 items known s xs l h choice len below =
           (λ (e : t ≡ s). clash (known0 s) (subst (λ z. known0 z ≡ true) e k) given0)
           (λ (n : t ≡ s → ⊥). there t n ∙ h.kept t lt k)
           (cases_eq t s);
-      next = λ t lt k0 k. ⊎_elim (λ (e : t ≡ s). subst (λ z. IsNextSet g ranks new (λ u. nat_lt (turn' u) (turn' z)) z (new z)) (sym e) next_s) (λ (n : t ≡ s → ⊥). next_t t n (h.next t lt k0 (sym (others t n) ∙ k)) (soon t (sym (others t n) ∙ k))) (cases_eq t s);
+      next = λ t lt k0 k. ⊎_elim (λ (e : t ≡ s). subst (λ z. IsNextSet g ranks new (λ u. nat_lt (turn' u) (turn' z)) z (new z)) (sym e)
+          next_s) (λ (n : t ≡ s → ⊥). next_t t n (h.next t lt k0 (sym (others t n) ∙ k)) (soon t (sym (others t n) ∙ k))) (cases_eq t s);
     }

@@ -26,7 +26,8 @@ one_each f g (k ∷ ks) h e =
     let o = fronts_same (f k) (g k) (flat_map f ks) (flat_map g ks) h.0 e in
     (o.0, one_each f g ks h.1 o.1)
 
-module _ (b : BoundValue) (meshes others : List RankMesh) (bytes : List ℕ) (p q : PlanValue) (same : map rank_mesh_value meshes ≡ map rank_mesh_value others) (c : Certified b meshes bytes p) (d : Certified b others bytes q) where
+module _ (b : BoundValue) (meshes others : List RankMesh) (bytes : List ℕ) (p q : PlanValue)
+    (same : map rank_mesh_value meshes ≡ map rank_mesh_value others) (c : Certified b meshes bytes p) (d : Certified b others bytes q) where
   abbrev Lines : ℕ → List (List ℕ) → PlanValue → Type 0
   Lines size ls u = FitLines b others size (Exactly 1 header_line ∷ Sizes ∷ (body b others ++ Done ∷ [])) ls (colours_in u.sites)
 
@@ -85,5 +86,7 @@ module _ (b : BoundValue) (meshes others : List RankMesh) (bytes : List ℕ) (p 
     colours = λ s r x y l run lr. (ap (λ (z : ColourLists). z.blocks) (at_rank s r x y l run lr), ap (λ (z : ColourLists). z.inner) (at_rank s r x y l run lr));
   }
 
-pub plans_are_alike : (b : BoundValue) (meshes others : List RankMesh) (bytes : List ℕ) (p q : PlanValue) → map rank_mesh_value meshes ≡ map rank_mesh_value others → Certified b meshes bytes p → Certified b others bytes q → AreAlike b meshes others p q
+pub plans_are_alike : (b : BoundValue) (meshes others : List RankMesh) (bytes : List ℕ) (p q : PlanValue)
+    → map rank_mesh_value meshes ≡ map rank_mesh_value others → Certified b meshes bytes p → Certified b others bytes q
+    → AreAlike b meshes others p q
 plans_are_alike b meshes others bytes p q same c d = alike b meshes others bytes p q same c d

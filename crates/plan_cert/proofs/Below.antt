@@ -17,7 +17,8 @@ below f zero = []
 below f (suc n) = below f n ++ f n
 
 module _ (b : BoundValue) (meshes : List RankMesh) (size : ℕ) where
-  pub fits_below : (f : ℕ → List Awaited) (ls : ℕ → List (List ℕ)) (cs : ℕ → List ColourLists) (n : ℕ) → ((k : ℕ) → k < n → FitLines b meshes size (f k) (ls k) (cs k)) → FitLines b meshes size (each_below f n) (below ls n) (below cs n)
+  pub fits_below : (f : ℕ → List Awaited) (ls : ℕ → List (List ℕ)) (cs : ℕ → List ColourLists) (n : ℕ)
+      → ((k : ℕ) → k < n → FitLines b meshes size (f k) (ls k) (cs k)) → FitLines b meshes size (each_below f n) (below ls n) (below cs n)
   fits_below f ls cs zero h = refl
   fits_below f ls cs (suc n) h = fit_append b meshes size (each_below f n) (f n) (below ls n) (ls n) (below cs n) (cs n) (fits_below f ls cs n (λ k l. h k (omega arith))) (h n (omega arith))
 
@@ -45,7 +46,9 @@ module _ {X : Type 0} (none : X) where
 -- what is made of the numbers that are listed, one after another
 pub flat_below : {X : Type 0} (f : ℕ → List X) (t : ℕ → Bool) (n : ℕ) → flat_map f (listed n t) ≡ below (λ k. cond (t k) (f k) []) n
 flat_below f t zero = refl
-flat_below f t (suc n) = flat_map-append f (listed n t) (cond (t n) (n ∷ []) []) ∙ (ap (λ z. z ++ flat_map f (cond (t n) (n ∷ []) [])) (flat_below f t n) ∙ ap (λ z. below (λ k. cond (t k) (f k) []) n ++ z) (by_test (t n)))
+flat_below f t (suc n) = flat_map-append f (listed n t) (cond (t n) (n ∷ []) [])
+    ∙ (ap (λ z. z ++ flat_map f (cond (t n) (n ∷ []) [])) (flat_below f t n)
+    ∙ ap (λ z. below (λ k. cond (t k) (f k) []) n ++ z) (by_test (t n)))
   where
     by_test : (b : Bool) → flat_map f (cond b (n ∷ []) []) ≡ cond b (f n) []
     by_test true = append-nil (f n)

@@ -99,7 +99,8 @@ map_flat f g [] = refl
 map_flat f g (x ∷ xs) = ap (λ z. g (f x) ++ z) (map_flat f g xs)
 
 -- what is made of a plan's loops, one after another, by their numbers
-pub sites_flat : {Z : Type 0} (p : PlanValue) (n : ℕ) (t : ℕ → Bool) (g : ℕ × SitePlanValue → List Z) → keys p.sites ≡ listed n t → flat_map g p.sites ≡ flat_map (λ s. g (s, site_plan p s)) (listed n t)
+pub sites_flat : {Z : Type 0} (p : PlanValue) (n : ℕ) (t : ℕ → Bool) (g : ℕ × SitePlanValue → List Z) → keys p.sites ≡ listed n t
+    → flat_map g p.sites ≡ flat_map (λ s. g (s, site_plan p s)) (listed n t)
 unfolding site_plan
 sites_flat p n t g e =
     let apart : Apart (keys p.sites) = subst Apart (sym e) (listed_apart n t) in

@@ -83,7 +83,8 @@ pub record ToldBehind (fixed words : List (List ℕ)) (blocks places : ℕ) (of_
   pub is : words ≡ fixed ++ (block_words ++ codes "inner" ∷ inner_words)
 
 -- they tell one list of each
-pub one_told : (fixed words : List (List ℕ)) (blocks places : ℕ) (bs cs ds es : List ℕ) → ToldBehind fixed words blocks places bs cs → ToldBehind fixed words blocks places ds es → (bs ≡ ds) × (cs ≡ es)
+pub one_told : (fixed words : List (List ℕ)) (blocks places : ℕ) (bs cs ds es : List ℕ) → ToldBehind fixed words blocks places bs cs
+    → ToldBehind fixed words blocks places ds es → (bs ≡ ds) × (cs ≡ es)
 one_told fixed words blocks places bs cs ds es t u =
     let long : length t.block_words ≡ length u.block_words = colours_long t.block_words bs t.are_blocks ∙ (t.block_count ∙ (sym u.block_count ∙ sym (colours_long u.block_words ds u.are_blocks))) in
     let behind = append_cancel_left fixed (t.block_words ++ codes "inner" ∷ t.inner_words) (u.block_words ++ codes "inner" ∷ u.inner_words) (sym t.is ∙ u.is) in

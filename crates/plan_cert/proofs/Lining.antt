@@ -116,7 +116,8 @@ module _ (w : List ℕ) (ws : List (List ℕ)) where
       (e ∙ (ap (λ z. z ++ more) line_content ∙ append_assoc (content (w ∷ ws)) (10 ∷ []) more))
 
 -- two lines at one front are the same, and so are their words and what stands behind them
-pub one_front : (v w : List ℕ) (vs ws : List (List ℕ)) (rest more : List ℕ) → AreDark (v ∷ vs) → AreDark (w ∷ ws) → line_of (v ∷ vs) ++ rest ≡ line_of (w ∷ ws) ++ more → (v ∷ vs ≡ w ∷ ws) × (rest ≡ more)
+pub one_front : (v w : List ℕ) (vs ws : List (List ℕ)) (rest more : List ℕ) → AreDark (v ∷ vs) → AreDark (w ∷ ws)
+    → line_of (v ∷ vs) ++ rest ≡ line_of (w ∷ ws) ++ more → (v ∷ vs ≡ w ∷ ws) × (rest ≡ more)
 one_front v w vs ws rest more h k e =
     let a : content (v ∷ vs) ++ 10 ∷ rest ≡ line_of (w ∷ ws) ++ more = sym (append_assoc (content (v ∷ vs)) (10 ∷ []) rest) ∙ (ap (λ z. z ++ rest) (sym (line_content v vs)) ∙ e) in
     let o = line_front w ws (content (v ∷ vs)) rest more k (content_no_lf v vs h) a in

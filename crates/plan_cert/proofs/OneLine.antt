@@ -33,7 +33,8 @@ module _ (b : BoundValue) (meshes : List RankMesh) where
   pub one_size : (m n : ℕ) (line other rest more : List ℕ) → IsSizes b meshes m line → IsSizes b meshes n other → line ++ rest ≡ other ++ more → (m ≡ n) × (rest ≡ more)
   one_size m n line other rest more s t e =
       let lines = sym (ap (λ z. z ++ rest) s.is) ∙ (e ∙ ap (λ z. z ++ more) t.is) in
-      let o = one_front (codes "ranks") (codes "ranks") (decimal (length meshes) ∷ codes "block" ∷ decimal m ∷ []) (decimal (length meshes) ∷ codes "block" ∷ decimal n ∷ []) rest more (sizes_dark m) (sizes_dark n) lines in
+      let o = one_front (codes "ranks") (codes "ranks") (decimal (length meshes) ∷ codes "block" ∷ decimal m ∷ [])
+          (decimal (length meshes) ∷ codes "block" ∷ decimal n ∷ []) rest more (sizes_dark m) (sizes_dark n) lines in
       let d : decimal m ≡ decimal n = ap (λ zs. get_or zs 3 []) o.0 in
       let a = s.few in
       let c = t.few in
@@ -50,7 +51,8 @@ module _ (b : BoundValue) (meshes : List RankMesh) where
       pub site_dark : (bs is : List (List ℕ)) → AreDark bs → AreDark is → AreDark (site_words ++ (bs ++ codes "inner" ∷ is))
       site_dark bs is h k = (refl, (decimal_dark s, (refl, (decimal_dark r, (refl, (decimal_dark (places_in b meshes s r), (refl, dark_append bs (codes "inner" ∷ is) h (refl, k))))))))
 
-      pub told_by : (c : ColourLists) (line : List ℕ) (i : IsSite b meshes size s r c line) → ToldBehind site_words (site_words ++ (i.blocks ++ codes "inner" ∷ i.inner)) (length c.blocks) (length c.inner) c.blocks c.inner
+      pub told_by : (c : ColourLists) (line : List ℕ) (i : IsSite b meshes size s r c line)
+          → ToldBehind site_words (site_words ++ (i.blocks ++ codes "inner" ∷ i.inner)) (length c.blocks) (length c.inner) c.blocks c.inner
       told_by c line i = record { block_words = i.blocks; inner_words = i.inner; are_blocks = i.are_blocks; are_inner = i.are_inner; block_count = refl; inner_count = refl; is = refl }
 
       pub told_dark : (c : ColourLists) (line : List ℕ) (i : IsSite b meshes size s r c line) → AreDark (site_words ++ (i.blocks ++ codes "inner" ∷ i.inner))
@@ -76,7 +78,8 @@ module _ (b : BoundValue) (meshes : List RankMesh) where
 
     -- ---- any line
 
-    pub one_fit : (x : Awaited) (line other rest more : List ℕ) (cs ds : List ColourLists) → FitsLine b meshes size x line cs → FitsLine b meshes size x other ds → line ++ rest ≡ other ++ more → (cs ≡ ds) × (rest ≡ more)
+    pub one_fit : (x : Awaited) (line other rest more : List ℕ) (cs ds : List ColourLists) → FitsLine b meshes size x line cs
+        → FitsLine b meshes size x other ds → line ++ rest ≡ other ++ more → (cs ≡ ds) × (rest ≡ more)
     one_fit (Exactly n l) line other rest more cs ds f g e = (f.1 ∙ sym g.1, append_cancel_left l rest more (sym (ap (λ z. z ++ rest) f.0) ∙ (e ∙ ap (λ z. z ++ more) g.0)))
     one_fit Done line other rest more cs ds f g e = (f.1 ∙ sym g.1, append_cancel_left done_line rest more (sym (ap (λ z. z ++ rest) f.0) ∙ (e ∙ ap (λ z. z ++ more) g.0)))
     one_fit Sizes line other rest more cs ds f g e = (f.1 ∙ sym g.1, (one_size size size line other rest more f.0 g.0 e).1)
@@ -88,7 +91,8 @@ module _ (b : BoundValue) (meshes : List RankMesh) where
     no_clash s r c d n e k = subst (λ z. Clashes b meshes size s r z n) (sym e) k
 
     -- what fits isn't refused
-    pub not_both : (x : Awaited) (line rest more : List ℕ) (cs : List ColourLists) (n : ℕ) → IsEarly x ⊎ (more ≡ []) → FitsLine b meshes size x line cs → rest ≡ line ++ more → Refuses b meshes size x rest n → ⊥
+    pub not_both : (x : Awaited) (line rest more : List ℕ) (cs : List ColourLists) (n : ℕ) → IsEarly x ⊎ (more ≡ [])
+        → FitsLine b meshes size x line cs → rest ≡ line ++ more → Refuses b meshes size x rest n → ⊥
     not_both (Exactly m l) line rest more cs n h f e k = k.1 more (e ∙ ap (λ z. z ++ more) f.0)
     not_both Sizes line rest more cs n h f e k = k.1 size line more f.0 e
     not_both Done line rest more cs n (inl h) f e k = h

@@ -53,7 +53,9 @@ module _ (b : BoundValue) (meshes : List RankMesh) where
   body_early =
       let n : ℕ = length b.sites in
       let halos : AreEarly (awaited_halos b meshes) = early_below (awaited_set b meshes) (λ s. early_below (λ r. awaited_halo b meshes s r ∷ []) (λ r. (tt, tt)) (length meshes)) (set_count b.mesh) in
-      let sites : AreEarly (awaited_sites b meshes n) = early_below (λ s. cond (runs_free b s) (awaited_ranks b meshes s) []) (λ s. early_if (runs_free b s) (awaited_ranks b meshes s) (early_below (λ r. ColoursOf s r ∷ []) (λ r. (tt, tt)) (length meshes))) n in
+      let sites : AreEarly (awaited_sites b meshes n) = early_below (λ s. cond (runs_free b s) (awaited_ranks b meshes s) [])
+          (λ s. early_if (runs_free b s) (awaited_ranks b meshes s) (early_below (λ r. ColoursOf s r ∷ []) (λ r. (tt, tt)) (length meshes)))
+          n in
       let items : AreEarly (awaited_items b meshes) = early_below (λ k. awaited_item b meshes k ∷ []) (λ k. (tt, tt)) (length b.trace) in
       early_append (awaited_halos b meshes) (awaited_sites b meshes n ++ awaited_items b meshes) halos (early_append (awaited_sites b meshes n) (awaited_items b meshes) sites items)
 
@@ -127,7 +129,8 @@ module _ (b : BoundValue) (meshes : List RankMesh) (size : ℕ) where
   -- ---- one plan
 
   -- the colours of lines that fit are one
-  pub one_colours : (xs : List Awaited) (ls ms : List (List ℕ)) (rest more : List ℕ) (cs ds : List ColourLists) → Fit xs ls cs → Fit xs ms ds → all ls ++ rest ≡ all ms ++ more → (cs ≡ ds) × (rest ≡ more)
+  pub one_colours : (xs : List Awaited) (ls ms : List (List ℕ)) (rest more : List ℕ) (cs ds : List ColourLists) → Fit xs ls cs
+      → Fit xs ms ds → all ls ++ rest ≡ all ms ++ more → (cs ≡ ds) × (rest ≡ more)
   one_colours [] [] [] rest more cs ds a c e = (a ∙ sym c, e)
   one_colours [] [] (j ∷ ms) rest more cs ds a c e = absurd c
   one_colours [] (l ∷ ls) ms rest more cs ds a c e = absurd a
@@ -151,7 +154,8 @@ module _ (b : BoundValue) (meshes : List RankMesh) where
   pub tells_one : (m n : ℕ) (bytes : List ℕ) → Tells b meshes m bytes → Tells b meshes n bytes → m ≡ n
   tells_one m n bytes s t = (one_size b meshes m n s.line t.line s.more t.more s.sizes t.sizes (append_cancel_left header_line (s.line ++ s.more) (t.line ++ t.more) (sym s.is ∙ t.is))).0
 
-  pub fits_tell : (size : ℕ) (xs : List Awaited) (ls : List (List ℕ)) (rest bytes : List ℕ) (cs : List ColourLists) → FitLines b meshes size (Exactly 1 header_line ∷ Sizes ∷ xs) ls cs → bytes ≡ all ls ++ rest → Tells b meshes size bytes
+  pub fits_tell : (size : ℕ) (xs : List Awaited) (ls : List (List ℕ)) (rest bytes : List ℕ) (cs : List ColourLists)
+      → FitLines b meshes size (Exactly 1 header_line ∷ Sizes ∷ xs) ls cs → bytes ≡ all ls ++ rest → Tells b meshes size bytes
   fits_tell size xs [] rest bytes cs f e = absurd f
   fits_tell size xs (l ∷ []) rest bytes cs f e = absurd f.4
   fits_tell size xs (l ∷ k ∷ ls) rest bytes cs f e = record {
@@ -178,7 +182,8 @@ module _ (b : BoundValue) (meshes : List RankMesh) where
       let same : Sizes ≡ h = head_same Sizes h ys t tail in
       let k : Refuses b meshes m Sizes rest number = subst (λ z. Refuses b meshes m z rest number) (sym same) x in
       let fit : FitsLine b meshes m (Exactly 1 header_line) l f.0 = subst (λ z. FitsLine b meshes m z l f.0) (sym first) f.3 in
-      inr (record { lines = l ∷ []; rest = rest; split = e; earlier = Exactly 1 header_line ∷ []; here = Sizes; later = ys; order = refl; colours = f.0 ++ []; fit = (f.0, [], refl, fit, refl); refuses = k; at = a })
+      inr (record { lines = l ∷ []; rest = rest; split = e; earlier = Exactly 1 header_line ∷ []; here = Sizes; later = ys; order = refl;
+          colours = f.0 ++ []; fit = (f.0, [], refl, fit, refl); refuses = k; at = a })
   sized_by m n bytes number before ys (z ∷ w ∷ v) h t ls rest cs o f e x a =
       let first : Exactly 1 header_line ≡ z = head_same (Exactly 1 header_line) z (Sizes ∷ ys) (w ∷ (v ++ h ∷ t)) o in
       let tail : Sizes ∷ ys ≡ w ∷ (v ++ h ∷ t) = tail_same (Exactly 1 header_line) z (Sizes ∷ ys) (w ∷ (v ++ h ∷ t)) o in
@@ -199,7 +204,8 @@ module _ (b : BoundValue) (meshes : List RankMesh) where
 
   at_one_size : (size : ℕ) (bytes : List ℕ) (m n k l : ℕ) → Among size bytes m k → Among size bytes n l → (m ≡ n) × (k ≡ l)
   at_one_size size bytes m n k l r s =
-      let o = one_by b meshes size r.earlier s.earlier r.here s.here r.later s.later r.lines s.lines r.rest s.rest r.colours s.colours m n (subst Ends r.order ends) (sym r.order ∙ s.order) r.fit s.fit (sym r.split ∙ s.split) r.refuses s.refuses in
+      let o = one_by b meshes size r.earlier s.earlier r.here s.here r.later s.later r.lines s.lines r.rest s.rest r.colours s.colours m n
+          (subst Ends r.order ends) (sym r.order ∙ s.order) r.fit s.fit (sym r.split ∙ s.split) r.refuses s.refuses in
       (o.0, r.at ∙ (o.1 ∙ sym s.at))
 
   pub one_among : (i j : ℕ) (bytes : List ℕ) (m n k l : ℕ) → Among i bytes m k → Among j bytes n l → (m ≡ n) × (k ≡ l)
@@ -210,24 +216,29 @@ module _ (b : BoundValue) (meshes : List RankMesh) where
       by_sizes (inl x) (inr y) = at_one_size i bytes m n k l r y
       by_sizes (inl x) (inl y) = at_one_size j bytes m n k l (subst (λ z. Among z bytes m k) (tells_one i j bytes x y) r) s
 
-  pub none_among : (i j : ℕ) (bytes : List ℕ) (n k : ℕ) (ls : List (List ℕ)) (cs : List ColourLists) → FitLines b meshes i (Exactly 1 header_line ∷ Sizes ∷ (body b meshes ++ Done ∷ [])) ls cs → bytes ≡ all ls → Among j bytes n k → ⊥
+  pub none_among : (i j : ℕ) (bytes : List ℕ) (n k : ℕ) (ls : List (List ℕ)) (cs : List ColourLists)
+      → FitLines b meshes i (Exactly 1 header_line ∷ Sizes ∷ (body b meshes ++ Done ∷ [])) ls cs → bytes ≡ all ls → Among j bytes n k → ⊥
   none_among i j bytes n k ls cs f e r = by_sizes (sized j i bytes n k (body b meshes ++ Done ∷ []) r)
     where
       at_size : Among i bytes n k → ⊥
-      at_size s = none_by b meshes i s.earlier s.here s.later ls s.lines s.rest cs s.colours n (subst Ends s.order ends) (subst (λ z. FitLines b meshes i z ls cs) s.order f) s.fit (sym e ∙ s.split) s.refuses
+      at_size s = none_by b meshes i s.earlier s.here s.later ls s.lines s.rest cs s.colours n (subst Ends s.order ends)
+          (subst (λ z. FitLines b meshes i z ls cs) s.order f) s.fit (sym e ∙ s.split) s.refuses
 
       by_sizes : Tells b meshes j bytes ⊎ Among i bytes n k → ⊥
       by_sizes (inr x) = at_size x
       by_sizes (inl x) = at_size (subst (λ z. Among z bytes n k) (tells_one j i bytes x (fits_tell i (body b meshes ++ Done ∷ []) ls [] bytes cs f (e ∙ sym (append-nil (all ls))))) r)
 
-pub one_refusal : (b : BoundValue) (meshes others : List RankMesh) (bytes : List ℕ) (number other line later : ℕ) → map rank_mesh_value meshes ≡ map rank_mesh_value others → IsRefused b meshes bytes number line → IsRefused b others bytes other later → (number ≡ other) × (line ≡ later)
+pub one_refusal : (b : BoundValue) (meshes others : List RankMesh) (bytes : List ℕ) (number other line later : ℕ)
+    → map rank_mesh_value meshes ≡ map rank_mesh_value others → IsRefused b meshes bytes number line → IsRefused b others bytes other later
+    → (number ≡ other) × (line ≡ later)
 one_refusal b meshes others bytes number other line later same r s =
     let k = refused_to b meshes others bytes number line same r in
     let e = awaited_body b others in
     let o = one_among b others k.0 s.0 bytes number other k.1 s.1 (subst (λ z. RefusedAmong b others k.0 z bytes number k.1) e k.3) (subst (λ z. RefusedAmong b others s.0 z bytes other s.1) e s.3) in
     (o.0, k.2 ∙ (ap suc o.1 ∙ sym s.2))
 
-pub none_is_refused : (b : BoundValue) (meshes others : List RankMesh) (bytes : List ℕ) (p : PlanValue) (number line : ℕ) → map rank_mesh_value meshes ≡ map rank_mesh_value others → Certified b meshes bytes p → IsRefused b others bytes number line → ⊥
+pub none_is_refused : (b : BoundValue) (meshes others : List RankMesh) (bytes : List ℕ) (p : PlanValue) (number line : ℕ)
+    → map rank_mesh_value meshes ≡ map rank_mesh_value others → Certified b meshes bytes p → IsRefused b others bytes number line → ⊥
 none_is_refused b meshes others bytes p number line same c r =
     let e = awaited_body b others in
     let fit = lines_to b meshes others same p.block (awaited b meshes) c.lines (colours_in p.sites) c.fit in

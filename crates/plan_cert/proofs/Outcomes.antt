@@ -27,7 +27,8 @@ module _ (b : BoundValue) (meshes : List RankMesh) (size : ℕ) where
   none_taken bytes Holds h = inl (record { lines = []; rest = bytes; colours = []; split = refl; fit = refl; holds = h })
 
   -- one line
-  pub line_taken : (x : Awaited) (line more bytes : List ℕ) (cs : List ColourLists) (Holds : List ColourLists → Type 0) → bytes ≡ line ++ more → FitsLine b meshes size x line cs → Holds cs → Outcome (x ∷ []) bytes Holds
+  pub line_taken : (x : Awaited) (line more bytes : List ℕ) (cs : List ColourLists) (Holds : List ColourLists → Type 0)
+      → bytes ≡ line ++ more → FitsLine b meshes size x line cs → Holds cs → Outcome (x ∷ []) bytes Holds
   line_taken x line more bytes cs Holds e f h = inl (record {
     lines = line ∷ [];
     rest = more;
@@ -57,7 +58,8 @@ module _ (b : BoundValue) (meshes : List RankMesh) (size : ℕ) where
   )
 
   -- and others behind them
-  pub and_then : (xs ys : List Awaited) (P Q R : List ColourLists → Type 0) → ((cs ds : List ColourLists) → P cs → Q ds → R (cs ++ ds)) → (bytes : List ℕ) → Outcome xs bytes P → ((rest : List ℕ) → Outcome ys rest Q) → Outcome (xs ++ ys) bytes R
+  pub and_then : (xs ys : List Awaited) (P Q R : List ColourLists → Type 0) → ((cs ds : List ColourLists) → P cs → Q ds → R (cs ++ ds))
+      → (bytes : List ℕ) → Outcome xs bytes P → ((rest : List ℕ) → Outcome ys rest Q) → Outcome (xs ++ ys) bytes R
   and_then xs ys P Q R both bytes (inr r) next = inr (r.0, r.1, among_first b meshes size xs ys bytes r.0 r.1 r.2)
   and_then xs ys P Q R both bytes (inl t) next = by_next (next t.rest)
     where

@@ -53,7 +53,8 @@ module _ (b : BoundValue) (meshes : List RankMesh) (size : ℕ) where
   }
 
   -- and those behind them
-  pub fits_append : (xs ys : List Awaited) (u v w : Unread) (cs ds : List ColourLists) → FitsAmong b meshes size xs u v cs → FitsAmong b meshes size ys v w ds → FitsAmong b meshes size (xs ++ ys) u w (cs ++ ds)
+  pub fits_append : (xs ys : List Awaited) (u v w : Unread) (cs ds : List ColourLists) → FitsAmong b meshes size xs u v cs
+      → FitsAmong b meshes size ys v w ds → FitsAmong b meshes size (xs ++ ys) u w (cs ++ ds)
   fits_append xs ys u v w cs ds f g = record {
     lines = f.lines ++ g.lines;
     split =
@@ -101,7 +102,9 @@ module _ (b : BoundValue) (meshes : List RankMesh) (size : ℕ) where
   }
 
   -- one of those behind lines that fit is
-  pub among_then : (xs ys : List Awaited) (ls : List (List ℕ)) (cs : List ColourLists) (bytes rest : List ℕ) (number before : ℕ) → bytes ≡ all ls ++ rest → Fit xs ls cs → RefusedAmong b meshes size ys rest number before → RefusedAmong b meshes size (xs ++ ys) bytes number (length ls + before)
+  pub among_then : (xs ys : List Awaited) (ls : List (List ℕ)) (cs : List ColourLists) (bytes rest : List ℕ) (number before : ℕ)
+      → bytes ≡ all ls ++ rest → Fit xs ls cs → RefusedAmong b meshes size ys rest number before
+      → RefusedAmong b meshes size (xs ++ ys) bytes number (length ls + before)
   among_then xs ys ls cs bytes rest number before e f r =
       let at = r.at in
       let long : length (ls ++ r.lines) ≡ length ls + length r.lines = length-append ls r.lines in
@@ -125,7 +128,8 @@ module _ (b : BoundValue) (meshes : List RankMesh) (size : ℕ) where
   pub refused_first : (xs ys : List Awaited) (u : Unread) (e : CertRefusal) → RefusesAmong b meshes size xs u e → RefusesAmong b meshes size (xs ++ ys) u e
   refused_first xs ys u e h = says_map e _ _ (λ n l k. (k.0, k.1, among_first xs ys u.rest n k.0 k.2)) h
 
-  pub refused_then : (xs ys : List Awaited) (u v : Unread) (cs : List ColourLists) (e : CertRefusal) → FitsAmong b meshes size xs u v cs → RefusesAmong b meshes size ys v e → RefusesAmong b meshes size (xs ++ ys) u e
+  pub refused_then : (xs ys : List Awaited) (u v : Unread) (cs : List ColourLists) (e : CertRefusal) → FitsAmong b meshes size xs u v cs
+      → RefusesAmong b meshes size ys v e → RefusesAmong b meshes size (xs ++ ys) u e
   refused_then xs ys u v cs e f h = says_map e _ _ (λ n l k. (
     length f.lines + k.0,
     (
@@ -156,13 +160,16 @@ front_of f k (suc n) l = ⊎_elim
 
 module _ (b : BoundValue) (meshes : List RankMesh) (size : ℕ) (f : ℕ → List Awaited) where
   -- those of k as well
-  pub fits_more : (k : ℕ) (u v w : Unread) (cs ds : List ColourLists) → FitsAmong b meshes size (each_below f k) u v cs → FitsAmong b meshes size (f k) v w ds → FitsAmong b meshes size (each_below f (k + 1)) u w (cs ++ ds)
+  pub fits_more : (k : ℕ) (u v w : Unread) (cs ds : List ColourLists) → FitsAmong b meshes size (each_below f k) u v cs
+      → FitsAmong b meshes size (f k) v w ds → FitsAmong b meshes size (each_below f (k + 1)) u w (cs ++ ds)
   fits_more k u v w cs ds a c =
       let e : suc k ≡ k + 1 = omega arith in
       subst (λ z. FitsAmong b meshes size (each_below f z) u w (cs ++ ds)) e (fits_append b meshes size (each_below f k) (f k) u v w cs ds a c)
 
   -- one of k's is refused
-  pub refused_at : (k n : ℕ) (u v : Unread) (cs : List ColourLists) (e : CertRefusal) → k < n → FitsAmong b meshes size (each_below f k) u v cs → RefusesAmong b meshes size (f k) v e → RefusesAmong b meshes size (each_below f n) u e
+  pub refused_at : (k n : ℕ) (u v : Unread) (cs : List ColourLists) (e : CertRefusal) → k < n
+      → FitsAmong b meshes size (each_below f k) u v cs → RefusesAmong b meshes size (f k) v e
+      → RefusesAmong b meshes size (each_below f n) u e
   refused_at k n u v cs e l a r =
       let p = front_of f k n l in
       subst (λ (z : List Awaited). RefusesAmong b meshes size z u e) (sym p.1)

@@ -101,8 +101,10 @@ module _ (b c : BoundValue) (mesh : b.mesh ≡ c.mesh) (sites : b.sites ≡ c.si
       ∙ (ap (λ (z : List SiteValue). record { mesh = c.mesh; kernels = c.kernels; sites = z; vars = c.vars; trace = b.trace }) sites
       ∙ ap (λ (z : List ItemValue). record { mesh = c.mesh; kernels = c.kernels; sites = c.sites; vars = c.vars; trace = z }) trace)
 
-pub certified_to : (b c : BoundValue) (meshes : List RankMesh) (bytes : List ℕ) (p : PlanValue) → b.mesh ≡ c.mesh → b.sites ≡ c.sites → b.trace ≡ c.trace → Certified b meshes bytes p → Certified c meshes bytes p
+pub certified_to : (b c : BoundValue) (meshes : List RankMesh) (bytes : List ℕ) (p : PlanValue) → b.mesh ≡ c.mesh → b.sites ≡ c.sites
+    → b.trace ≡ c.trace → Certified b meshes bytes p → Certified c meshes bytes p
 certified_to b c meshes bytes p mesh sites trace k = subst (λ z. Certified z meshes bytes p) (others_are b c mesh sites trace) (certified_there b c meshes bytes p k)
 
-pub refused_to : (b c : BoundValue) (meshes : List RankMesh) (bytes : List ℕ) (number line : ℕ) → b.mesh ≡ c.mesh → b.sites ≡ c.sites → b.trace ≡ c.trace → IsRefused b meshes bytes number line → IsRefused c meshes bytes number line
+pub refused_to : (b c : BoundValue) (meshes : List RankMesh) (bytes : List ℕ) (number line : ℕ) → b.mesh ≡ c.mesh → b.sites ≡ c.sites
+    → b.trace ≡ c.trace → IsRefused b meshes bytes number line → IsRefused c meshes bytes number line
 refused_to b c meshes bytes number line mesh sites trace k = subst (λ z. IsRefused z meshes bytes number line) (others_are b c mesh sites trace) (refused_there b c meshes bytes number line k)

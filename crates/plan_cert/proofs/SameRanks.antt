@@ -161,6 +161,7 @@ module _ (b : BoundValue) (meshes others : List RankMesh) (same : map rank_mesh_
     at = k.at;
   }
 
-pub refused_to : (b : BoundValue) (meshes others : List RankMesh) (bytes : List ℕ) (number line : ℕ) → map rank_mesh_value meshes ≡ map rank_mesh_value others → IsRefused b meshes bytes number line → IsRefused b others bytes number line
+pub refused_to : (b : BoundValue) (meshes others : List RankMesh) (bytes : List ℕ) (number line : ℕ)
+    → map rank_mesh_value meshes ≡ map rank_mesh_value others → IsRefused b meshes bytes number line → IsRefused b others bytes number line
 refused_to b meshes others bytes number line same k =
     (k.0, k.1, k.2, among_to b meshes others same k.0 (awaited b meshes) (awaited b others) bytes number k.1 (awaited_same b meshes others same) k.3)

@@ -50,7 +50,8 @@ module _ (b : BoundValue) (o : Owners) (n : Perms) (meshes : List RankMesh) (fit
   few_places s r l lr = by_class (scatters (site_at b s).args)
     where
       few : executed_in (sets_of meshes r) (site_at b s).set < 2 ^ 32
-      few = executed_few b.mesh o n meshes d.are_perms d.are_meshes r (site_at b s).set (let e = d.are_meshes.count in omega arith) (set_fits b meshes fits s l) (sizes_fit b.mesh fits.mesh (site_at b s).set)
+      few = executed_few b.mesh o n meshes d.are_perms d.are_meshes r (site_at b s).set (let e = d.are_meshes.count in omega arith)
+          (set_fits b meshes fits s l) (sizes_fit b.mesh fits.mesh (site_at b s).set)
 
       by_class : (t : Bool) → cond t (executed_in (sets_of meshes r) (site_at b s).set) (own_in (sets_of meshes r) (site_at b s).set) < 2 ^ 32
       by_class true = few
@@ -64,7 +65,8 @@ module _ (b : BoundValue) (o : Owners) (n : Perms) (meshes : List RankMesh) (fit
       let few = few_places s r ls lr in
       let blocks : length k.blocks.items ≤ places_of meshes (site_at b s) r = few_blocks (length k.blocks.items) p.block (places_of meshes (site_at b s) r) proper.block a.blocks_count in
       let count = a.inner_count in (
-        all_short (BlocksConflict b.mesh (maps_of meshes r) (reducing (site_at b s).args) (places_of meshes (site_at b s) r) p.block) k.blocks.items (length k.blocks.items) a.blocks (omega arith) (omega arith),
+        all_short (BlocksConflict b.mesh (maps_of meshes r) (reducing (site_at b s).args) (places_of meshes (site_at b s) r) p.block)
+            k.blocks.items (length k.blocks.items) a.blocks (omega arith) (omega arith),
         all_short (ConflictWithin b.mesh (maps_of meshes r) (reducing (site_at b s).args) p.block) k.inner.items (places_of meshes (site_at b s) r) a.inner (omega arith) few,
       )
 

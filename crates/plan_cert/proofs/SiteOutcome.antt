@@ -41,14 +41,16 @@ made c = record { blocks = vec_of c.blocks; inner = vec_of c.inner }
 
 made_lists : (c : ColourLists) → length c.blocks < 2 ^ 63 → length c.inner < 2 ^ 63 → lists_of (made c) ≡ c
 unfolding made
-made_lists c l k = ap (λ (z : List ℕ). record { blocks = z; inner = (vec_of c.inner).items }) (items_are c.blocks l) ∙ ap (λ (z : List ℕ). record { blocks = c.blocks; inner = z }) (items_are c.inner k)
+made_lists c l k = ap (λ (z : List ℕ). record { blocks = z; inner = (vec_of c.inner).items }) (items_are c.blocks l)
+    ∙ ap (λ (z : List ℕ). record { blocks = c.blocks; inner = z }) (items_are c.inner k)
 
 module _ (b : BoundValue) (meshes : List RankMesh) (size s r : ℕ) where
   -- colours that keep conflicts apart
   abbrev pub AreApart : List ColourLists → Type 0
   AreApart cs = (c : Colours) × (cs ≡ lists_of c ∷ []) × HasColours b meshes Separate size s r c
 
-  separate : (c : Colours) (line : List ℕ) → IsSite b meshes size s r (lists_of c) line → (BlocksClashIn b meshes size s r (lists_of c) → ⊥) → (PlacesClashIn b meshes size s r (lists_of c) → ⊥) → HasColours b meshes Separate size s r c
+  separate : (c : Colours) (line : List ℕ) → IsSite b meshes size s r (lists_of c) line → (BlocksClashIn b meshes size s r (lists_of c) → ⊥)
+      → (PlacesClashIn b meshes size s r (lists_of c) → ⊥) → HasColours b meshes Separate size s r c
   separate c line i blocks places = record {
     blocks_count = i.block_count;
     inner_count = i.inner_count;
@@ -64,7 +66,9 @@ module _ (b : BoundValue) (meshes : List RankMesh) (size s r : ℕ) where
         (let h = few_blocks (length c.blocks) size (places_in b meshes s r) some i.block_count in omega arith)
         (let e = i.inner_count in omega arith)
 
-    by_clash : (c : ColourLists) (line more bytes : List ℕ) → IsSite b meshes size s r c line → bytes ≡ line ++ more → Known (BlocksClashIn b meshes size s r c) → Known (PlacesClashIn b meshes size s r c) → Outcome b meshes size (ColoursOf s r ∷ []) bytes AreApart
+    by_clash : (c : ColourLists) (line more bytes : List ℕ) → IsSite b meshes size s r c line → bytes ≡ line ++ more
+        → Known (BlocksClashIn b meshes size s r c) → Known (PlacesClashIn b meshes size s r c)
+        → Outcome b meshes size (ColoursOf s r ∷ []) bytes AreApart
     by_clash c line more bytes i e (inl k) q = line_refused b meshes size (ColoursOf s r) bytes 6 AreApart (inr (c, line, more, e, i, inl (refl, k)))
     by_clash c line more bytes i e (inr k) (inl q) = line_refused b meshes size (ColoursOf s r) bytes 7 AreApart (inr (c, line, more, e, i, inr (refl, k, q)))
     by_clash c line more bytes i e (inr k) (inr q) =
@@ -72,7 +76,9 @@ module _ (b : BoundValue) (meshes : List RankMesh) (size s r : ℕ) where
         line_taken b meshes size (ColoursOf s r) line more bytes (c ∷ []) AreApart e (c, refl, i, k, q) (
           made c,
           ap (λ z. z ∷ []) (sym back),
-          separate (made c) line (subst (λ z. IsSite b meshes size s r z line) (sym back) i) (subst (λ z. BlocksClashIn b meshes size s r z → ⊥) (sym back) k) (subst (λ z. PlacesClashIn b meshes size s r z → ⊥) (sym back) q),
+          separate (made c) line (subst (λ z. IsSite b meshes size s r z line) (sym back) i)
+              (subst (λ z. BlocksClashIn b meshes size s r z → ⊥) (sym back) k)
+              (subst (λ z. PlacesClashIn b meshes size s r z → ⊥) (sym back) q),
         )
 
     -- ---- the first line of the bytes
@@ -108,7 +114,8 @@ module _ (b : BoundValue) (meshes : List RankMesh) (size s r : ℕ) where
         lf_there w more (subst HasNoLf
         (begins c line more bytes i e ∙ (ap (λ z. z ++ more) (line_content (codes "site") (told_words i.blocks i.inner)) ∙ append_assoc w (10 ∷ []) more)) none)
 
-    none_told : (bytes : List ℕ) (f : FirstLine bytes) → (SomeTold fixed (words f.line) many (places_in b meshes s r) → ⊥) → (c : ColourLists) (line more : List ℕ) → IsSite b meshes size s r c line → bytes ≡ line ++ more → ⊥
+    none_told : (bytes : List ℕ) (f : FirstLine bytes) → (SomeTold fixed (words f.line) many (places_in b meshes s r) → ⊥)
+        → (c : ColourLists) (line more : List ℕ) → IsSite b meshes size s r c line → bytes ≡ line ++ more → ⊥
     none_told bytes f none c line more i e =
         let dark = told_dark b meshes size s r c line i in
         let o = line_front (codes "site") (told_words i.blocks i.inner) f.line f.more more dark f.no_lf (sym f.is ∙ begins c line more bytes i e) in

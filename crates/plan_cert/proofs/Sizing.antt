@@ -30,7 +30,8 @@ NumbersAreRead = (n : ℕ) → n < 2 ^ 64 → number_of (decimal n) ≡ Some n
 pub no_digits : (u : Unread) (behind digits more : List ℕ) → u ≡ unread behind → HasNoLf u.rest → behind ≡ digits ++ 10 ∷ more → ⊥
 no_digits u behind digits more e h b = lf_there digits more (subst HasNoLf (ap (λ (v : Unread). v.rest) e ∙ b) h)
 
-pub digits_are : NumbersAreRead → (n : ℕ) (more digits rest behind : List ℕ) → n < 2 ^ 32 → behind ≡ decimal n ++ 10 ∷ more → behind ≡ digits ++ 10 ∷ rest → HasNoLf digits → u64_judged (number_of digits) ≡ Ok n
+pub digits_are : NumbersAreRead → (n : ℕ) (more digits rest behind : List ℕ) → n < 2 ^ 32 → behind ≡ decimal n ++ 10 ∷ more
+    → behind ≡ digits ++ 10 ∷ rest → HasNoLf digits → u64_judged (number_of digits) ≡ Ok n
 digits_are read n more digits rest behind l e t none =
     let same : digits ≡ decimal n = (one_line digits (decimal n) rest more none (dark_no_lf (decimal n) (decimal_dark n)) (sym t ∙ e)).0 in
     ap (λ z. u64_judged (number_of z)) same ∙ (ap u64_judged (read n (omega arith)) ∙ judged_some n (omega arith))
@@ -46,7 +47,8 @@ ok_same m n r e f = let g : Ok m ≡ Ok n = sym e ∙ f in cc
 pub ok_no_err : (n : ℕ) (e : NumRefusal) (r : Result ℕ NumRefusal) → r ≡ Err e → r ≡ Ok n → ⊥
 ok_no_err n e r f g = let h : Err e ≡ Ok n = sym f ∙ g in cc
 
-module _ (b : BoundValue) (meshes : List RankMesh) (ranks : ℕ) (count : length meshes ≡ ranks) (old : Unread) (told : Option ℕ) (rest front : List ℕ) (er : rest ≡ old.rest) (ef : front ≡ sizes_front ranks)
+module _ (b : BoundValue) (meshes : List RankMesh) (ranks : ℕ) (count : length meshes ≡ ranks) (old : Unread) (told : Option ℕ)
+    (rest front : List ℕ) (er : rest ≡ old.rest) (ef : front ≡ sizes_front ranks)
     (tells : (n : ℕ) (more : List ℕ) → n < 2 ^ 32 → rest ≡ front ++ (decimal n ++ 10 ∷ more) → told ≡ Some n) where
   line_is : (n : ℕ) (line : List ℕ) → IsSizes b meshes n line → line ≡ front ++ (decimal n ++ 10 ∷ [])
   line_is n line i = i.is ∙ (ap (λ z. line_of (codes "ranks" ∷ decimal z ∷ codes "block" ∷ decimal n ∷ [])) count ∙ (sizes_line ranks n ∙ ap (λ z. z ++ (decimal n ++ 10 ∷ [])) (sym ef)))
@@ -68,7 +70,8 @@ module _ (b : BoundValue) (meshes : List RankMesh) (ranks : ℕ) (count : length
         wrong (omega arith) (omega arith)),
   )
 
-  pub other_refused : (s : ℕ) (text : List ℕ) → told ≡ Some s → text ≡ front ++ (decimal s ++ 10 ∷ []) → ((more : List ℕ) → old.rest ≡ text ++ more → ⊥) → (size : ℕ) → RefusedAmong b meshes size (Sizes ∷ []) old.rest 2 0
+  pub other_refused : (s : ℕ) (text : List ℕ) → told ≡ Some s → text ≡ front ++ (decimal s ++ 10 ∷ [])
+      → ((more : List ℕ) → old.rest ≡ text ++ more → ⊥) → (size : ℕ) → RefusedAmong b meshes size (Sizes ∷ []) old.rest 2 0
   other_refused s text e t wrong size = refused_here b meshes size Sizes old 2 (
     refl,
     λ n line more i h. (

@@ -181,7 +181,8 @@ module _ (b : BoundValue) (meshes : List RankMesh) where
       behind_sizes : 0 < size → Answer bytes
       behind_sizes some = by_body (body_taken size some few_places more)
 
-module _ (in_range : (b : BoundValue) → Fits b → IsInRange b) (exist : PlansExist) (b : BoundValue) (o : Owners) (n : Perms) (meshes : List RankMesh) (bytes : List ℕ) (fits : Fits b) (d : IsDistributed b.mesh o n meshes) where
+module _ (in_range : (b : BoundValue) → Fits b → IsInRange b) (exist : PlansExist) (b : BoundValue) (o : Owners) (n : Perms)
+    (meshes : List RankMesh) (bytes : List ℕ) (fits : Fits b) (d : IsDistributed b.mesh o n meshes) where
   by_size : (rest : List ℕ) → bytes ≡ header_line ++ rest → Known (SomeBelow 65537 (Sized b meshes rest)) → Answer b meshes bytes
   by_size rest e (inr h) = no_size b meshes bytes rest e h
   by_size rest e (inl w) =

@@ -33,7 +33,8 @@ colours_push (v ∷ ws) [] w c e l h = absurd h
 colours_push (v ∷ ws) (d ∷ cs) w c e l h = (h.0, h.1, colours_push ws cs w c e l h.2)
 
 -- the next word behind some colours, where there are more
-colour_next : (ws seen : List (List ℕ)) (cs : List ℕ) (w : List ℕ) (more rest : List (List ℕ)) → AreColours ws cs → length seen < length ws → seen ++ w ∷ rest ≡ ws ++ more → (c : ℕ) × (number_of w ≡ Some c) × (c < 2 ^ 32)
+colour_next : (ws seen : List (List ℕ)) (cs : List ℕ) (w : List ℕ) (more rest : List (List ℕ)) → AreColours ws cs → length seen < length ws
+    → seen ++ w ∷ rest ≡ ws ++ more → (c : ℕ) × (number_of w ≡ Some c) × (c < 2 ^ 32)
 colour_next [] seen cs w more rest h l e = absurd (omega arith)
 colour_next (v ∷ ws) seen [] w more rest h l e = absurd h
 colour_next (v ∷ ws) [] (c ∷ cs) w more rest h l e = (c, subst (λ z. number_of z ≡ Some c) (sym (head_same w v rest (ws ++ more) e)) h.0, h.1)
@@ -103,10 +104,13 @@ line_told front line behind blocks places o1 o2 o3 o4 ws vs bs cs e w a ab lb i 
 }
 
 -- a line that tells colours is cut into them
-pub line_cut : (front line behind : List ℕ) (blocks places : ℕ) (bs cs : List ℕ) → line ≡ front ++ behind → (t : TellsColours front line blocks places bs cs) → words behind ≡ [] ∷ (t.block_words ++ codes "inner" ∷ t.inner_words)
+pub line_cut : (front line behind : List ℕ) (blocks places : ℕ) (bs cs : List ℕ) → line ≡ front ++ behind
+    → (t : TellsColours front line blocks places bs cs) → words behind ≡ [] ∷ (t.block_words ++ codes "inner" ∷ t.inner_words)
 line_cut front line behind blocks places bs cs e t =
     let is : behind ≡ spaced (t.block_words ++ codes "inner" ∷ t.inner_words) = append_cancel_left front behind (spaced (t.block_words ++ codes "inner" ∷ t.inner_words)) (sym e ∙ t.is) in
-    ap words is ∙ spaced_cut (t.block_words ++ codes "inner" ∷ t.inner_words) (dark_append t.block_words (codes "inner" ∷ t.inner_words) (colours_dark t.block_words bs t.are_blocks) (refl, colours_dark t.inner_words cs t.are_inner))
+    ap words is ∙ spaced_cut (t.block_words ++ codes "inner" ∷ t.inner_words)
+        (dark_append t.block_words (codes "inner" ∷ t.inner_words) (colours_dark t.block_words bs t.are_blocks)
+        (refl, colours_dark t.inner_words cs t.are_inner))
 
 -- whether a word is left
 abbrev NextIs : List (List ℕ) → List (List ℕ) → Option (Bor (List ℕ)) → Type 0

@@ -53,7 +53,9 @@ row_is b cell_at d e at n dim h =
 
 pub range_more : (a n : ℕ) → range_with_len a (n + 1) ≡ range_with_len a n ++ (a + n) ∷ []
 range_more a zero = ap (λ k. k ∷ []) (let k : a ≡ a + 0 = omega arith in k)
-range_more a (suc n) = ap (range_with_len a) (let k : suc n + 1 ≡ suc (n + 1) = omega arith in k) ∙ ap (λ l. a ∷ l) (range_more (a + 1) n ∙ ap (λ k. range_with_len (a + 1) n ++ k ∷ []) (let k : a + 1 + n ≡ a + suc n = omega arith in k))
+range_more a (suc n) = ap (range_with_len a) (let k : suc n + 1 ≡ suc (n + 1) = omega arith in k)
+    ∙ ap (λ l. a ∷ l) (range_more (a + 1) n ∙ ap (λ k. range_with_len (a + 1) n ++ k ∷ [])
+    (let k : a + 1 + n ≡ a + suc n = omega arith in k))
 
 pub rows_more : (b : BoundValue) (s : Store) (d n : ℕ) (old new : List ℤ) → old ≡ map s (flat_map (row_cells b d) (numbers n)) → new ≡ old ++ map s (row_cells b d n)
     → new ≡ map s (flat_map (row_cells b d) (numbers (n + 1)))
@@ -66,7 +68,8 @@ rows_length b s d x zero = omega arith
 rows_length b s d x (suc n) =
     ap length (map-append s (row_cells b d x) (flat_map (row_cells b d) (range_with_len (x + 1) n)))
     ∙ length-append (map s (row_cells b d x)) (map s (flat_map (row_cells b d) (range_with_len (x + 1) n)))
-    ∙ (let one : length (map s (row_cells b d x)) ≡ dat_dim b.mesh d = length-map (row_cells b d x) s ∙ length-map-range_with_len (λ i. Data (record { dat = d; element = x; component = i })) 0 (dat_dim b.mesh d) in
+    ∙ (let one : length (map s (row_cells b d x)) ≡ dat_dim b.mesh d = length-map (row_cells b d x) s
+        ∙ length-map-range_with_len (λ i. Data (record { dat = d; element = x; component = i })) 0 (dat_dim b.mesh d) in
     let rest : length (map s (flat_map (row_cells b d) (range_with_len (x + 1) n))) ≡ n * dat_dim b.mesh d = rows_length b s d (x + 1) n in omega (arith, one, rest))
 
 pub dat_length : (b : BoundValue) (s : Store) (d : ℕ) → length (map s (dat_cells b d)) ≡ set_size b.mesh (dat_set b.mesh d) * dat_dim b.mesh d
@@ -133,7 +136,8 @@ abbrev pub HostHalts : Setup KernelFault → Layout KernelFault → State Kernel
 HostHalts p l st f k = (n : KernelFault) → p.program.host k (owned p l f) ≡ Halts n
     → flat_step p l (Join k) f ≡ record f { stop = Some (record { item = k; element = None; fault = n }) }
 
-module _ (b : BoundValue) (p : Setup KernelFault) (l : Layout KernelFault) (t : Tables) (is : p.program ≡ program_of b) (q : Indexed p l t) (st : State KernelFault) (f : Flat KernelFault) (h : Shows p l t st f)
+module _ (b : BoundValue) (p : Setup KernelFault) (l : Layout KernelFault) (t : Tables) (is : p.program ≡ program_of b) (q : Indexed p l t)
+    (st : State KernelFault) (f : Flat KernelFault) (h : Shows p l t st f)
     (are : variables_from l.variable_at 0 l.variables ≡ variable_cells b) (law : CellsAreHeld) (k : ℕ) (cells : List ℤ) (out : List ℕ) where
   pub goes_on : (A : Type 0) (u : A) (x : Hosted KernelFault) → ActEnds (of_vars b.vars) cells (owned p l f) st.output out {A = A} (Ok u) x → p.program.host k (owned p l f) ≡ x → Hosts p l t st f k
       → Shows p l t (record st { variables = cells; output = out }) (flat_step p l (Join k) f)
@@ -142,7 +146,9 @@ module _ (b : BoundValue) (p : Setup KernelFault) (l : Layout KernelFault) (t : 
       (hosts v w cells same (new_length b p l t is q st f h are law cells v ends.0) (new_at b p l t is q st f h are law cells v ends.0))
   goes_on A u (Halts n) ends same hosts = absurd ends
 
-  pub halts : (A : Type 0) (n : KernelFault) (x : Hosted KernelFault) → ActEnds (of_vars b.vars) cells (owned p l f) st.output out {A = A} (Err n) x → p.program.host k (owned p l f) ≡ x → HostHalts p l st f k
+  pub halts : (A : Type 0) (n : KernelFault) (x : Hosted KernelFault)
+      → ActEnds (of_vars b.vars) cells (owned p l f) st.output out {A = A} (Err n) x → p.program.host k (owned p l f) ≡ x
+      → HostHalts p l st f k
       → ((flat_step p l (Join k) f).stop ≡ Some (record { item = k; element = None; fault = n })) × ((flat_step p l (Join k) f).output ≡ out)
   halts A n (Goes v w) ends same stops = absurd ends
   halts A n (Halts m) ends same stops =

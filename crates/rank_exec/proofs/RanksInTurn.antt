@@ -41,7 +41,9 @@ module _ {F : Type 0} (old : State F) (new : ℕ → Share F) where
   -- all but memories, partials and fault is as before
   pub same_rest : (n : ℕ) (ms ps : List (List ℤ)) (x : Option (Stop F)) → (after_ranks old new n).memories ≡ ms → (after_ranks old new n).partials ≡ ps → (after_ranks old new n).fault ≡ x
       → after_ranks old new n ≡ record old { memories = ms; partials = ps; fault = x }
-  same_rest n ms ps x a b c = as_old n ∙ (ap₂ (λ m q. record old { memories = m; partials = q; fault = (after_ranks old new n).fault }) a b ∙ ap (λ o. record old { memories = ms; partials = ps; fault = o }) c)
+  same_rest n ms ps x a b c = as_old n ∙
+      (ap₂ (λ m q. record old { memories = m; partials = q; fault = (after_ranks old new n).fault }) a b
+      ∙ ap (λ o. record old { memories = ms; partials = ps; fault = o }) c)
     where
       as_old : (n : ℕ) → after_ranks old new n ≡ record old { memories = (after_ranks old new n).memories; partials = (after_ranks old new n).partials; fault = (after_ranks old new n).fault }
       as_old zero = refl

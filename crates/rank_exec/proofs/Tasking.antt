@@ -72,7 +72,8 @@ module _ {F : Type 0} (p : Setup F) (l : Layout F) (t : Tables) where
   }
 
   -- states that show the same before and after begins have the same memories and variables
-  pub run_later : (k r x n : ℕ) (w : List ℤ) (xs : List ℕ) (old new : State F) (f : Flat F) → Shows p l t old f → Shows p l t new (flat_from p l (begins k r xs) f) → IsRun p l t k r x old n w → IsRun p l t k r x new n w
+  pub run_later : (k r x n : ℕ) (w : List ℤ) (xs : List ℕ) (old new : State F) (f : Flat F) → Shows p l t old f
+      → Shows p l t new (flat_from p l (begins k r xs) f) → IsRun p l t k r x old n w → IsRun p l t k r x new n w
   run_later k r x n w xs old new f a b h =
       let keep = begins_keep p l k r xs f in
       run_kept k r x n w old new (b.memories ∙ (keep.0 ∙ sym a.memories)) (b.variables ∙ (keep.1 ∙ sym a.variables)) h

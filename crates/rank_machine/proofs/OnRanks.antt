@@ -99,7 +99,8 @@ rows_next f xs bs ys us now r d y e i la lx lb is =
     ∙ ap (λ m. take m (map f xs) ++ drop m bs) next)
 
 -- one part more was given what its rank had
-pub parts_next : (ms ps : List (Vec ℤ Global)) (xs : List RankPart) (us bs : List (Vec ℤ Global)) (ns qs : List (Vec ℤ Global)) (now : List RankPart) (r : ℕ) (d : RankPart) (y : RankPart) (m p : Vec ℤ Global)
+pub parts_next : (ms ps : List (Vec ℤ Global)) (xs : List RankPart) (us bs : List (Vec ℤ Global)) (ns qs : List (Vec ℤ Global))
+    (now : List RankPart) (r : ℕ) (d : RankPart) (y : RankPart) (m p : Vec ℤ Global)
     → now ≡ take r (lent ms ps xs) ++ drop r xs → ns ≡ take r us ++ drop r ms → qs ≡ take r bs ++ drop r ps
     → r < length xs → length ms ≡ length xs → length ps ≡ length xs → length us ≡ length xs → length bs ≡ length xs
     → y ≡ with_parts (get_or now r d) (get_or ns r m) (get_or qs r p)
@@ -181,7 +182,9 @@ module _ (c : DistributedProgram) (k : ℕ) (vs : List ℤ) (ls : List (Vec ℕ 
         → RanOnRanks (setup_in c) (layout_in c) (tables_in c) k (values_at st.variables (tables_in c).constants) st.variables (places_on ls) st (share_at (map share_in ys)) (length (map share_in ys))
     ran_all constants r lt = by_parts ys refl
       where
-        by_parts : (zs : List RankPart) → ys ≡ zs → Reaches (setup_in c) (layout_in c) (tables_in c) k r (values_at st.variables (tables_in c).constants) st.variables (places_on ls r) (with_fault None (share_of r st)) (length (places_on ls r)) (share_at (map share_in ys) r)
+        by_parts : (zs : List RankPart) → ys ≡ zs → Reaches (setup_in c) (layout_in c) (tables_in c) k r
+            (values_at st.variables (tables_in c).constants) st.variables (places_on ls r) (with_fault None (share_of r st))
+            (length (places_on ls r)) (share_at (map share_in ys) r)
         by_parts [] e = absurd (let n = length-map ys share_in in let m = ap length e in omega (arith, lt, n, m))
         by_parts (d ∷ zs) e =
             let p = setup_in c in
@@ -196,9 +199,16 @@ module _ (c : DistributedProgram) (k : ℕ) (vs : List ℤ) (ls : List (Vec ℕ 
             lent_at ms ps xs r d d d.memory d.partials (omega (arith, here, many)) (omega (arith, here, as_many)) here in
             let ran : RanOn c k vs ls (0 + r) (get_or (lent ms ps xs) r d) (get_or ys r d) = made_at (RanOn c k vs ls) 0 (lent ms ps xs) ys made r d d (omega (arith, here, lent_many)) in
             let none : 0 + r ≡ r = omega arith in
-            let it : RanOn c k vs ls r (with_parts x (get_or ms r d.memory) (get_or ps r d.partials)) (get_or ys r d) = subst (λ (z : RankPart). RanOn c k vs ls r z (get_or ys r d)) part (subst (λ n. RanOn c k vs ls n (get_or (lent ms ps xs) r d) (get_or ys r d)) none ran) in
-            let share : (cells amounts : List ℤ) → cells ≡ row st.memories r → amounts ≡ row st.partials r → whole x.room.constants.items vs (record { cells = cells; partials = amounts; fault = None }) (share_in (get_or ys r d)) → whole x.room.constants.items vs (share_of r st) (share_in (get_or ys r d)) =
-            λ cells amounts a b h. subst (λ z. whole x.room.constants.items vs (record { cells = row st.memories r; partials = z; fault = None }) (share_in (get_or ys r d))) b (subst (λ z. whole x.room.constants.items vs (record { cells = z; partials = amounts; fault = None }) (share_in (get_or ys r d))) a h) in
+            let it : RanOn c k vs ls r (with_parts x (get_or ms r d.memory) (get_or ps r d.partials)) (get_or ys r d) =
+                subst (λ (z : RankPart). RanOn c k vs ls r z (get_or ys r d)) part
+                (subst (λ n. RanOn c k vs ls n (get_or (lent ms ps xs) r d) (get_or ys r d)) none ran) in
+            let share : (cells amounts : List ℤ) → cells ≡ row st.memories r → amounts ≡ row st.partials r
+                → whole x.room.constants.items vs (record { cells = cells; partials = amounts; fault = None }) (share_in (get_or ys r d))
+                → whole x.room.constants.items vs (share_of r st) (share_in (get_or ys r d)) =
+            λ cells amounts a b h. subst (λ z. whole x.room.constants.items vs
+                (record { cells = row st.memories r; partials = z; fault = None }) (share_in (get_or ys r d))) b
+                (subst (λ z. whole x.room.constants.items vs (record { cells = z; partials = amounts; fault = None })
+                (share_in (get_or ys r d))) a h) in
             let first : whole x.room.constants.items vs (share_of r st) (share_in (get_or ys r d)) =
             share (get_or ms r d.memory).items (get_or ps r d.partials).items (memory_at r d.memory here) (partials_at r d.partials here) it.reaches in
             subst (whole (values_at st.variables t.constants) st.variables (share_of r st)) (sym (get_or-map share_in ys r d (record { cells = []; partials = []; fault = None }) there))

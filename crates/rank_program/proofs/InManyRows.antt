@@ -28,7 +28,8 @@ module _ (places : List ℕ) (at count : ℕ) (fits : at + count ≤ length plac
   pub part_are : (j : ℕ) → j < count → slice_index part j ≡ get_or places (at + j) 0
   part_are j lt = ap (λ xs. slice_index xs j) is ∙ part_is places at count j lt
 
-module _ (l : LocalLoop) (y : RowLoop) (row : IsRowLoop l y) (is : IsLocalLoop l) (cells : ℕ) (long : cells ≡ l.part.now.cells) (part : List ℕ) (begins : (j : ℕ) → j < length part → BeginsAt l (slice_index part j)) where
+module _ (l : LocalLoop) (y : RowLoop) (row : IsRowLoop l y) (is : IsLocalLoop l) (cells : ℕ) (long : cells ≡ l.part.now.cells)
+    (part : List ℕ) (begins : (j : ℕ) → j < length part → BeginsAt l (slice_index part j)) where
   pub can_run : CanRun y cells part
   can_run = record {
     code = subst IsCode (sym row.code) is.code;
@@ -43,4 +44,5 @@ module _ (l : LocalLoop) (y : RowLoop) (row : IsRowLoop l y) (is : IsLocalLoop l
   }
 
   pub in_rows : RunsInRows y cells (modes_of (program_in l.program.now) (site_of (program_in l.program.now) l.item)) (λ x. places_in x l.args.now row.stand) part (length part)
-  in_rows = subst (λ n. RunsInRows y n (modes_of (program_in l.program.now) (site_of (program_in l.program.now) l.item)) (λ x. places_in x l.args.now row.stand) part (length part)) (sym long) (row.in_rows part (length part) begins)
+  in_rows = subst (λ n. RunsInRows y n (modes_of (program_in l.program.now) (site_of (program_in l.program.now) l.item))
+      (λ x. places_in x l.args.now row.stand) part (length part)) (sym long) (row.in_rows part (length part) begins)

@@ -71,7 +71,8 @@ module _ (args : List Arg) (locals : List (Option LocalArg)) (Begins : ℕ → T
 
     pub cell_is : (x : ℕ) → Begins x → column_cell row x c ≡ o.local.base + local_in o.local.via x * o.local.dim + o.component
     cell_is x begins =
-        let lead : local_in (way_of row c) x ≡ local_in o.local.via x = ap (λ v. local_in v x) way_is ∙ its.way_leads args locals Begins width base_of dim_of reach row numbers places all tables o.arg o.local o.on x begins in
+        let lead : local_in (way_of row c) x ≡ local_in o.local.via x = ap (λ v. local_in v x) way_is
+            ∙ its.way_leads args locals Begins width base_of dim_of reach row numbers places all tables o.arg o.local o.on x begins in
         let cell : (column_at row c).cell ≡ o.local.base + o.component = ap (λ (q : RowColumn). q.cell) o.is in
         let product : local_in (way_of row c) x * (column_at row c).dim ≡ local_in o.local.via x * o.local.dim =
         ap₂ (λ n d. n * d) lead (ap (λ (q : RowColumn). q.dim) o.is) in
@@ -90,7 +91,8 @@ module _ (args : List Arg) (locals : List (Option LocalArg)) (Begins : ℕ → T
     has_dim = let dim : (column_at row c).dim ≡ o.local.dim = ap (λ (q : RowColumn). q.dim) o.is in let below = o.below in omega (arith, dim, below)
 
     pub way_below : (column_at row c).way < length row.ways.now
-    way_below = subst (λ w. w < length row.ways.now) (sym (ap (λ (q : RowColumn). q.way) o.is)) (its.number_below args locals Begins width base_of dim_of reach row numbers places all tables o.arg o.on.there)
+    way_below = subst (λ w. w < length row.ways.now) (sym (ap (λ (q : RowColumn). q.way) o.is))
+        (its.number_below args locals Begins width base_of dim_of reach row numbers places all tables o.arg o.on.there)
 
     -- an argument that may modify a column
     pub record Modifier : Type 0 where

@@ -34,10 +34,13 @@ is_before x y a b h = ⊎_elim
 trans : {F : Type 0} (w x y : Stop F) (c : At w) (a : At x) (b : At y) → is_less w x ≡ true → is_less x y ≡ true → is_less w y ≡ true
 unfolding Before
 trans w x y c a b h i = is_before w y c b (⊎_elim
-    (λ (l : w.item < x.item). ⊎_elim (λ (m : x.item < y.item). inl (omega arith)) (λ (m : (x.item ≡ y.item) × (a.element < b.element)). inl (let e : x.item ≡ y.item = m.0 in omega arith)) (before x y a b i))
+    (λ (l : w.item < x.item). ⊎_elim (λ (m : x.item < y.item). inl (omega arith))
+        (λ (m : (x.item ≡ y.item) × (a.element < b.element)). inl (let e : x.item ≡ y.item = m.0 in omega arith)) (before x y a b i))
     (λ (l : (w.item ≡ x.item) × (c.element < a.element)).
     let e : w.item ≡ x.item = l.0 in
-    ⊎_elim (λ (m : x.item < y.item). inl (omega arith)) (λ (m : (x.item ≡ y.item) × (a.element < b.element)). inr (l.0 ∙ m.0, (let u : c.element < a.element = l.1 in let v : a.element < b.element = m.1 in omega arith))) (before x y a b i))
+    ⊎_elim (λ (m : x.item < y.item). inl (omega arith))
+        (λ (m : (x.item ≡ y.item) × (a.element < b.element)). inr
+        (l.0 ∙ m.0, (let u : c.element < a.element = l.1 in let v : a.element < b.element = m.1 in omega arith))) (before x y a b i))
     (before w x c a h))
 
 -- what is before y, where x isn't, is before x
@@ -59,12 +62,17 @@ split w x y c a b h n = ⊎_elim
   where
     same_item : is_less w x ≡ false → y.item ≤ x.item → x.item ≡ y.item
     same_item t l = ⊎_elim
-        (λ (u : y.item < x.item). absurd (false≢true (sym t ∙ is_before w x c a (⊎_elim (λ (v : w.item < y.item). inl (omega arith)) (λ (v : (w.item ≡ y.item) × (c.element < b.element)). inl (let e : w.item ≡ y.item = v.0 in omega arith)) (before w y c b h)))))
+        (λ (u : y.item < x.item). absurd
+            (false≢true (sym t ∙ is_before w x c a
+            (⊎_elim (λ (v : w.item < y.item). inl (omega arith))
+            (λ (v : (w.item ≡ y.item) × (c.element < b.element)). inl (let e : w.item ≡ y.item = v.0 in omega arith)) (before w y c b h)))))
         (λ (u : x.item ≤ y.item). omega arith)
         (cases_lt y.item x.item)
 
 -- the least of three, from either side
-pub least_of_three : {F : Type 0} (w x y : Stop F) → At w → At x → At y → cond (is_less w (cond (is_less x y) x y)) w (cond (is_less x y) x y) ≡ cond (is_less (cond (is_less w x) w x) y) (cond (is_less w x) w x) y
+pub least_of_three : {F : Type 0} (w x y : Stop F) → At w → At x → At y
+    → cond (is_less w (cond (is_less x y) x y)) w (cond (is_less x y) x y) ≡ cond (is_less (cond (is_less w x) w x) y)
+    (cond (is_less w x) w x) y
 least_of_three w x y c a b = ⊎_elim
     (λ (p : is_less x y ≡ true).
     let z : cond (is_less x y) x y ≡ x = cond-true (is_less x y) x y p in

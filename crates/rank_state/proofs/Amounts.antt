@@ -47,9 +47,12 @@ module _ {F : Type 0} (p : Setup F) (l : Layout F) (t : Tables) (k : ℕ) where
   slot_among i [] h e = absurd (false≢true e)
   slot_among i (x ∷ xs) h e = ⊎_elim
       (λ (y : is_slot i x ≡ true).
-      let same : same_cell (Variable (l.variable_at (index x))) (Variable (t.reduced_at i)) ≡ true = ap (λ z. same_cell (Variable (l.variable_at (index x))) (Variable z)) (cell_is i x h.0 y) ∙ same_cell_refl (Variable (l.variable_at (index x))) in
+      let same : same_cell (Variable (l.variable_at (index x))) (Variable (t.reduced_at i)) ≡ true =
+          ap (λ z. same_cell (Variable (l.variable_at (index x))) (Variable z)) (cell_is i x h.0 y)
+          ∙ same_cell_refl (Variable (l.variable_at (index x))) in
       or_left (same_cell (Variable (l.variable_at (index x))) (Variable (t.reduced_at i))) (among (scalar_cells l.variable_at xs) (Variable (t.reduced_at i))) same)
-      (λ (y : has_slot i xs ≡ true). or_right (same_cell (Variable (l.variable_at (index x))) (Variable (t.reduced_at i))) (among (scalar_cells l.variable_at xs) (Variable (t.reduced_at i))) (slot_among i xs h.1 y))
+      (λ (y : has_slot i xs ≡ true). or_right (same_cell (Variable (l.variable_at (index x))) (Variable (t.reduced_at i)))
+          (among (scalar_cells l.variable_at xs) (Variable (t.reduced_at i))) (slot_among i xs h.1 y))
       (or_cases (is_slot i x) (has_slot i xs) e)
 
   -- a slot is one of the item's loop
@@ -62,7 +65,8 @@ module _ {F : Type 0} (p : Setup F) (l : Layout F) (t : Tables) (k : ℕ) where
       of_one (Amount at slot how) g e = ap t.site_at (eqb-true i slot e) ∙ g.3
 
   -- what one scalar merges into its slot
-  amount_here : (i : ℕ) (x : Scalar) (w : ℤ) (ps : List ℤ) → i < length ps → IsScalar p l t k x → is_slot i x ≡ true → get_or (amount x w ps) i (pos 0) ≡ merge_at (p.reduces (p.program.site k) (t.reduced_at i)) (get_or ps i (pos 0)) w
+  amount_here : (i : ℕ) (x : Scalar) (w : ℤ) (ps : List ℤ) → i < length ps → IsScalar p l t k x → is_slot i x ≡ true
+      → get_or (amount x w ps) i (pos 0) ≡ merge_at (p.reduces (p.program.site k) (t.reduced_at i)) (get_or ps i (pos 0)) w
   amount_here i (Value at) w ps lt h e = absurd (false≢true e)
   amount_here i (Amount at slot how) w ps lt h e =
       let j : i ≡ slot = eqb-true i slot e in
@@ -74,33 +78,44 @@ module _ {F : Type 0} (p : Setup F) (l : Layout F) (t : Tables) (k : ℕ) where
 
   -- a slot of the loop
   pub amounts_here : (i : ℕ) (xs : List Scalar) (ws ps : List ℤ) → i < length ps → length xs ≤ length ws → AreScalars p l t k xs → Once (scalar_cells l.variable_at xs) → has_slot i xs ≡ true
-      → get_or (amounts xs ws ps) i (pos 0) ≡ merge_at (p.reduces (p.program.site k) (t.reduced_at i)) (get_or ps i (pos 0)) (lookup (scalar_cells l.variable_at xs) ws (Variable (t.reduced_at i)) (pos 0))
+      → get_or (amounts xs ws ps) i (pos 0) ≡ merge_at (p.reduces (p.program.site k) (t.reduced_at i)) (get_or ps i (pos 0))
+          (lookup (scalar_cells l.variable_at xs) ws (Variable (t.reduced_at i)) (pos 0))
   amounts_here i [] ws ps lt room h once e = absurd (false≢true e)
   amounts_here i (x ∷ xs) [] ps lt room h once e = absurd (omega arith)
   amounts_here i (x ∷ xs) (w ∷ ws) ps lt room h once e = ⊎_elim
       (λ (y : is_slot i x ≡ true).
-      let same : same_cell (Variable (l.variable_at (index x))) (Variable (t.reduced_at i)) ≡ true = ap (λ z. same_cell (Variable (l.variable_at (index x))) (Variable z)) (cell_is i x h.0 y) ∙ same_cell_refl (Variable (l.variable_at (index x))) in
-      let rest : has_slot i xs ≡ false = false_from_ne_true (has_slot i xs) (λ z. false≢true (sym once.0 ∙ (ap (λ c. among (scalar_cells l.variable_at xs) (Variable c)) (sym (cell_is i x h.0 y)) ∙ slot_among i xs h.1 z))) in
+      let same : same_cell (Variable (l.variable_at (index x))) (Variable (t.reduced_at i)) ≡ true =
+          ap (λ z. same_cell (Variable (l.variable_at (index x))) (Variable z)) (cell_is i x h.0 y)
+          ∙ same_cell_refl (Variable (l.variable_at (index x))) in
+      let rest : has_slot i xs ≡ false = false_from_ne_true (has_slot i xs)
+          (λ z. false≢true (sym once.0 ∙ (ap (λ c. among (scalar_cells l.variable_at xs) (Variable c)) (sym (cell_is i x h.0 y))
+          ∙ slot_among i xs h.1 z))) in
       amounts_other i xs ws (amount x w ps) rest
       ∙ (amount_here i x w ps lt h.0 y
-      ∙ ap (merge_at (p.reduces (p.program.site k) (t.reduced_at i)) (get_or ps i (pos 0))) (sym (cond-true (same_cell (Variable (l.variable_at (index x))) (Variable (t.reduced_at i))) w (lookup (scalar_cells l.variable_at xs) ws (Variable (t.reduced_at i)) (pos 0)) same))))
+      ∙ ap (merge_at (p.reduces (p.program.site k) (t.reduced_at i)) (get_or ps i (pos 0)))
+          (sym (cond-true (same_cell (Variable (l.variable_at (index x))) (Variable (t.reduced_at i))) w
+          (lookup (scalar_cells l.variable_at xs) ws (Variable (t.reduced_at i)) (pos 0)) same))))
       (λ (y : is_slot i x ≡ false).
       let rest : has_slot i xs ≡ true = ⊎_elim (λ z. absurd (false≢true (sym y ∙ z))) (λ z. z) (or_cases (is_slot i x) (has_slot i xs) e) in
       let other : same_cell (Variable (l.variable_at (index x))) (Variable (t.reduced_at i)) ≡ false = false_from_ne_true (same_cell (Variable (l.variable_at (index x))) (Variable (t.reduced_at i)))
       (λ z. false≢true (sym once.0 ∙ (ap (among (scalar_cells l.variable_at xs)) (same_cell_true (Variable (l.variable_at (index x))) (Variable (t.reduced_at i)) z) ∙ slot_among i xs h.1 rest))) in
       amounts_here i xs ws (amount x w ps) (omega (arith, amount_length x w ps)) (omega arith) h.1 once.1 rest
       ∙ (ap (λ z. merge_at (p.reduces (p.program.site k) (t.reduced_at i)) z (lookup (scalar_cells l.variable_at xs) ws (Variable (t.reduced_at i)) (pos 0))) (amount_other i x w ps y)
-      ∙ ap (merge_at (p.reduces (p.program.site k) (t.reduced_at i)) (get_or ps i (pos 0))) (sym (cond-false (same_cell (Variable (l.variable_at (index x))) (Variable (t.reduced_at i))) w (lookup (scalar_cells l.variable_at xs) ws (Variable (t.reduced_at i)) (pos 0)) other))))
+      ∙ ap (merge_at (p.reduces (p.program.site k) (t.reduced_at i)) (get_or ps i (pos 0)))
+          (sym (cond-false (same_cell (Variable (l.variable_at (index x))) (Variable (t.reduced_at i))) w
+          (lookup (scalar_cells l.variable_at xs) ws (Variable (t.reduced_at i)) (pos 0)) other))))
       (cases_Bool (is_slot i x))
 
 -- ---- the scalars behind the spans
 
-lookup_behind : (cell_at : ℕ → DatCell) (at n : ℕ) (xs : List Cell) (ws : List ℤ) (v : VarCell) (d : ℤ) → n ≤ length ws → lookup (cells_from cell_at at n ++ xs) ws (Variable v) d ≡ lookup xs (drop n ws) (Variable v) d
+lookup_behind : (cell_at : ℕ → DatCell) (at n : ℕ) (xs : List Cell) (ws : List ℤ) (v : VarCell) (d : ℤ) → n ≤ length ws
+    → lookup (cells_from cell_at at n ++ xs) ws (Variable v) d ≡ lookup xs (drop n ws) (Variable v) d
 lookup_behind cell_at at zero xs ws v d h = refl
 lookup_behind cell_at at (suc n) xs [] v d h = absurd (omega arith)
 lookup_behind cell_at at (suc n) xs (w ∷ ws) v d h = lookup_behind cell_at (suc at) n xs ws v d (omega arith)
 
-pub lookup_scalar : (cell_at : ℕ → DatCell) (ss : List Span) (xs : List Cell) (ws : List ℤ) (v : VarCell) (d : ℤ) → total ss ≤ length ws → lookup (span_cells cell_at ss ++ xs) ws (Variable v) d ≡ lookup xs (drop (total ss) ws) (Variable v) d
+pub lookup_scalar : (cell_at : ℕ → DatCell) (ss : List Span) (xs : List Cell) (ws : List ℤ) (v : VarCell) (d : ℤ) → total ss ≤ length ws
+    → lookup (span_cells cell_at ss ++ xs) ws (Variable v) d ≡ lookup xs (drop (total ss) ws) (Variable v) d
 lookup_scalar cell_at [] xs ws v d h = refl
 lookup_scalar cell_at (s ∷ ss) xs ws v d h =
     ap (λ z. lookup z ws (Variable v) d) (append_assoc (cells_from cell_at s.at s.dim) (span_cells cell_at ss) xs)

@@ -59,10 +59,12 @@ module _ {F : Type 0} (p : Setup F) (l : Layout F) (t : Tables) (st : State F) (
       let lr : r < p.ranks = plan.2 in
       record {
         rank = (let w : length st.frames.panes ≡ p.ranks = h.sized.panes in omega arith);
-        place = (let w : length (get_or st.frames.panes r []) ≡ t.places r = h.sized.places r plan.2 in let c : l.count k r ≤ t.places r = q.counts_fit k r (free_kind (p.program.kind k) plan.1) plan.2 in omega arith);
+        place = (let w : length (get_or st.frames.panes r []) ≡ t.places r = h.sized.places r plan.2 in let c : l.count k r ≤ t.places r =
+            q.counts_fit k r (free_kind (p.program.kind k) plan.1) plan.2 in omega arith);
       }
 
-  pub can_begin : Indexed p l t → (k r x : ℕ) → IsStep (by_place p l) (Begin k r x) → (spans : List Span) (scalars : List Scalar) → AreWindows p l t k r x spans scalars → CanBegin st t.constants r x spans scalars
+  pub can_begin : Indexed p l t → (k r x : ℕ) → IsStep (by_place p l) (Begin k r x) → (spans : List Span) (scalars : List Scalar)
+      → AreWindows p l t k r x spans scalars → CanBegin st t.constants r x spans scalars
   can_begin q k r x plan spans scalars e =
       let count : length st.variables ≡ l.variables = h.sized.count in
       record {
@@ -86,7 +88,8 @@ module _ {F : Type 0} (p : Setup F) (l : Layout F) (t : Tables) (st : State F) (
       (λ (y : (k == j) ≡ false). absurd (stays (ap (pane_in k) i ∙ cond-false (k == j) (flat.Windows ws) flat.Shut_pane y)))
       (cases_Bool (k == j))
 
-  pub can_end : Indexed p l t → (k r x : ℕ) → IsStep (by_place p l) (End k r x) → (spans : List Span) (scalars : List Scalar) → AreWindows p l t k r x spans scalars → (pane_in k (pane_at st.frames.panes r x) ≡ flat.Shut_pane → ⊥)
+  pub can_end : Indexed p l t → (k r x : ℕ) → IsStep (by_place p l) (End k r x) → (spans : List Span) (scalars : List Scalar)
+      → AreWindows p l t k r x spans scalars → (pane_in k (pane_at st.frames.panes r x) ≡ flat.Shut_pane → ⊥)
       → CanEnd st r x spans scalars
   can_end q k r x plan spans scalars e stays =
       let lr : r < p.ranks = plan.2 in

@@ -23,11 +23,14 @@ index_length variable_at [] = refl
 index_length variable_at (i ∷ is) = ap suc (index_length variable_at is)
 
 module _ {F : Type 0} (p : Setup F) (l : Layout F) where
-  pub windows_counted : (t : Tables) (k r x : ℕ) (spans : List Span) (scalars : List Scalar) → AreWindows p l t k r x spans scalars → total spans + length scalars ≡ length (l.cells k (l.original k r x))
+  pub windows_counted : (t : Tables) (k r x : ℕ) (spans : List Span) (scalars : List Scalar) → AreWindows p l t k r x spans scalars
+      → total spans + length scalars ≡ length (l.cells k (l.original k r x))
   windows_counted t k r x spans scalars e = sym (ap length e.cells ∙ windows_length (l.cell_at r) spans l.variable_at scalars)
 
   pub owned_counted : (t : Tables) (k e : ℕ) (spans : List Owned) (indices : List ℕ) → AreOwned p l t k e spans indices → total_all spans + length indices ≡ length (l.cells k e)
-  owned_counted t k e spans indices o = sym (ap length o.cells ∙ (owned_length l.cell_at spans (index_cells l.variable_at indices) ∙ ap (λ n. total_all spans + n) (index_length l.variable_at indices)))
+  owned_counted t k e spans indices o = sym
+      (ap length o.cells ∙ (owned_length l.cell_at spans (index_cells l.variable_at indices)
+      ∙ ap (λ n. total_all spans + n) (index_length l.variable_at indices)))
 
   pub element_begun : IsLayout p l → (k r x : ℕ) → IsStep (by_place p l) (Begin k r x) → (p.program.kind k ≡ Free) × (l.original k r x < elements p.program k)
   element_begun z k r x plan =

@@ -30,7 +30,8 @@ abbrev pub AtFirst : (ℕ → VarCell) → (Cell → ℤ) → List ℤ → List 
 AtFirst variable_at value variables [] = Unit {0}
 AtFirst variable_at value variables (x ∷ xs) = (value (Variable (variable_at (index x))) ≡ first variables x) × AtFirst variable_at value variables xs
 
-pub gather_scalars : (variable_at : ℕ → VarCell) (value : Cell → ℤ) (variables : List ℤ) (xs : List Scalar) → AtFirst variable_at value variables xs → firsts variables xs ≡ map value (scalar_cells variable_at xs)
+pub gather_scalars : (variable_at : ℕ → VarCell) (value : Cell → ℤ) (variables : List ℤ) (xs : List Scalar)
+    → AtFirst variable_at value variables xs → firsts variables xs ≡ map value (scalar_cells variable_at xs)
 gather_scalars variable_at value variables [] h = refl
 gather_scalars variable_at value variables (x ∷ xs) h =
     ap₂ (λ a b. a ∷ b) (sym h.0) (gather_scalars variable_at value variables xs h.1)

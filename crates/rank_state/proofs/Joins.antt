@@ -34,10 +34,13 @@ module _ {F : Type 0} (p : Setup F) (l : Layout F) (t : Tables) (st : State F) (
   pub reduces : if_before k st.fault ≡ None → p.program.kind k ≡ Reduce → (scalars : List Scalar) → AreReduced p l t k scalars → Shows p l t (reduced scalars st) (flat_step p l (Join k) f)
   reduces e i scalars g = subst (Shows p l t (reduced scalars st)) (sym (goes e Reduce i)) (reduce_shows p l t st f h k scalars g)
 
-  pub halts : if_before k st.fault ≡ None → p.program.kind k ≡ Host → (n : F) → p.program.host k (owned p l f) ≡ Halts n → flat_step p l (Join k) f ≡ record f { stop = Some (record { item = k; element = None; fault = n }) }
+  pub halts : if_before k st.fault ≡ None → p.program.kind k ≡ Host → (n : F) → p.program.host k (owned p l f) ≡ Halts n
+      → flat_step p l (Join k) f ≡ record f { stop = Some (record { item = k; element = None; fault = n }) }
   halts e i n b = goes e Host i ∙ ap (λ z. host_flat p l k z f) b
 
-  pub hosts : if_before k st.fault ≡ None → p.program.kind k ≡ Host → (v : VarCell → ℤ) (w : List ℕ) (vs : List ℤ) → p.program.host k (owned p l f) ≡ Goes v w → length vs ≡ l.variables → ((i : ℕ) → i < l.variables → get_or vs i (pos 0) ≡ v (l.variable_at i))
+  pub hosts : if_before k st.fault ≡ None → p.program.kind k ≡ Host → (v : VarCell → ℤ) (w : List ℕ) (vs : List ℤ)
+      → p.program.host k (owned p l f) ≡ Goes v w → length vs ≡ l.variables
+      → ((i : ℕ) → i < l.variables → get_or vs i (pos 0) ≡ v (l.variable_at i))
       → Shows p l t (record st { variables = vs; output = st.output ++ w }) (flat_step p l (Join k) f)
   hosts e i v w vs b len same =
       let count : length f.variables ≡ l.variables = ap length (sym h.variables) ∙ h.sized.count in

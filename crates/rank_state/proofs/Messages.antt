@@ -23,7 +23,8 @@ abbrev message : ℕ → List ℤ → flat.Post
 message k vs = record { about = k; values = vs }
 
 -- one row changes and keeps its length
-pub lengths_kept : (rows : List (List ℤ)) (r : ℕ) (new : List ℤ) → length new ≡ length (get_or rows r []) → r < length rows → (a : ℕ) → length (get_or (set rows r new) a []) ≡ length (get_or rows a [])
+pub lengths_kept : (rows : List (List ℤ)) (r : ℕ) (new : List ℤ) → length new ≡ length (get_or rows r []) → r < length rows → (a : ℕ)
+    → length (get_or (set rows r new) a []) ≡ length (get_or rows a [])
 lengths_kept rows r new e lt a = ⊎_elim
     (λ (i : a ≡ r). subst (λ z. length (get_or (set rows r new) z []) ≡ length (get_or rows z [])) (sym i) (ap length (get_or-set_same rows r new [] lt) ∙ e))
     (λ (ne : a ≡ r → ⊥). ap length (get_or-set_other rows r a new [] ne))
@@ -66,7 +67,8 @@ module _ {F : Type 0} (p : Setup F) (l : Layout F) (t : Tables) (q : Indexed p l
     mail = λ a b.
         queue_push st.mail.posts f.mail h.mail (record { item = k; from = s; to = r; values = gathered (row st.memories s) spans }) a b
         ∙ ap (λ vs. put2 s r (f.mail s r ++ (message k vs ∷ [])) f.mail a b) (packed_spans k s r lt spans e);
-    whole = whole_push p l t st.mail.posts (record { item = k; from = s; to = r; values = gathered (row st.memories s) spans }) h.whole (ap length (packed_spans k s r lt spans e) ∙ length-map (l.exports k s r) (packed p l f s));
+    whole = whole_push p l t st.mail.posts (record { item = k; from = s; to = r; values = gathered (row st.memories s) spans }) h.whole
+        (ap length (packed_spans k s r lt spans e) ∙ length-map (l.exports k s r) (packed p l f s));
     panes = h.panes;
     held = h.held;
     elements = h.elements;
@@ -87,12 +89,14 @@ module _ {F : Type 0} (p : Setup F) (l : Layout F) (t : Tables) (q : Indexed p l
       let ranks : length st.memories ≡ p.ranks = h.sized.ranks in
       let inside : Within (length (row st.memories r)) spans = subst (λ n. Within n spans) (sym (row_length r lt)) e.within in
       let new : arrived spans (first_post s r st.mail.posts) (row st.memories r) ≡ scattered 0 y.values spans (row st.memories r) = ap (λ o. arrived spans o (row st.memories r)) one in
-      let same : length (arrived spans (first_post s r st.mail.posts) (row st.memories r)) ≡ length (row st.memories r) = ap length new ∙ scattered_length 0 y.values spans (row st.memories r) inside (omega arith) in
+      let same : length (arrived spans (first_post s r st.mail.posts) (row st.memories r)) ≡ length (row st.memories r) = ap length new
+          ∙ scattered_length 0 y.values spans (row st.memories r) inside (omega arith) in
       let back : scattered 0 y.values spans (row st.memories r) ≡ looked_up (arrives p k r s) (l.cell_at r) (l.exports k s r) y.values (row st.memories r) =
       copied_back (arrives p k r s) (l.place r) (l.cell_at r) (l.width r) (λ i il. q.place_at r i lt il) law spans l.variable_at [] (l.exports k s r) y.values (row st.memories r)
       (e.cells ∙ sym (append-nil (span_cells (l.cell_at r) spans))) e.once (row_length r lt) e.within (omega arith) e.writes in
       let written : arrived spans (first_post s r st.mail.posts) (row st.memories r) ≡ looked_up (arrives p y.item r s) (l.cell_at r) (l.exports y.item s r) y.values (get_or f.memories r []) =
-      new ∙ (back ∙ (ap (λ j. looked_up (arrives p j r s) (l.cell_at r) (l.exports j s r) y.values (row st.memories r)) (sym about) ∙ ap (looked_up (arrives p y.item r s) (l.cell_at r) (l.exports y.item s r) y.values) (row_is r))) in
+      new ∙ (back ∙ (ap (λ j. looked_up (arrives p j r s) (l.cell_at r) (l.exports j s r) y.values (row st.memories r)) (sym about)
+          ∙ ap (looked_up (arrives p y.item r s) (l.cell_at r) (l.exports y.item s r) y.values) (row_is r))) in
       record {
         sized = record {
           ranks = length-set st.memories r (arrived spans (first_post s r st.mail.posts) (row st.memories r)) ∙ ranks;
@@ -117,7 +121,8 @@ module _ {F : Type 0} (p : Setup F) (l : Layout F) (t : Tables) (q : Indexed p l
         stop = h.stop;
       }
 
-  pub recv_step : LookUp → (k r s : ℕ) → r < p.ranks → (spans : List Span) → AreImports p l t k s r spans → Carries k s r (total spans) st.mail → Shows p l t (taken r s spans st) (flat_step p l (Recv k r s) f)
+  pub recv_step : LookUp → (k r s : ℕ) → r < p.ranks → (spans : List Span) → AreImports p l t k s r spans
+      → Carries k s r (total spans) st.mail → Shows p l t (taken r s spans st) (flat_step p l (Recv k r s) f)
   recv_step law k r s lt spans e carries = by_post (first_post s r st.mail.posts) refl carries
     where
       by_post : (o : Option Post) → first_post s r st.mail.posts ≡ o → Carries_as k (total spans) o → Shows p l t (taken r s spans st) (flat_step p l (Recv k r s) f)

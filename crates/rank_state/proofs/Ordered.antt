@@ -17,7 +17,9 @@ use Rattle.rank_state.proofs.Scatters.{LookUp, span_scatter, window_length}
 
 module _ (taken : DatCell → Bool) (place : DatCell → ℕ) where
   -- cells that aren't taken change nothing
-  skip_scatter : (cell_at : ℕ → DatCell) (at k : ℕ) (xs : List Cell) (ws m : List ℤ) → k ≤ length ws → ((j : ℕ) → j < k → taken (cell_at (at + j)) ≡ false) → scatter taken place (cells_from cell_at at k ++ xs) ws m ≡ scatter taken place xs (drop k ws) m
+  skip_scatter : (cell_at : ℕ → DatCell) (at k : ℕ) (xs : List Cell) (ws m : List ℤ) → k ≤ length ws
+      → ((j : ℕ) → j < k → taken (cell_at (at + j)) ≡ false)
+      → scatter taken place (cells_from cell_at at k ++ xs) ws m ≡ scatter taken place xs (drop k ws) m
   skip_scatter cell_at at zero xs ws m room h = refl
   skip_scatter cell_at at (suc k) xs [] m room h = absurd (omega arith)
   skip_scatter cell_at at (suc k) xs (w ∷ ws) m room h =
@@ -54,23 +56,30 @@ module _ {F : Type 0} (p : Setup F) (l : Layout F) (t : Tables) (q : Indexed p l
     length-set ms s.rank (with_window s.at (cells_at from s.dim f) (get_or ms s.rank [])) ∙ w.0,
     λ r rl. ⊎_elim
         (λ (e : r ≡ s.rank). subst (λ z. length (get_or (put_span from f s ms) z []) ≡ l.width z) (sym e)
-        (ap length (get_or-set_same ms s.rank (with_window s.at (cells_at from s.dim f) (get_or ms s.rank [])) [] (let n : length ms ≡ p.ranks = w.0 in omega arith)) ∙ (window_fits from f s ms w lr fit room ∙ w.1 s.rank lr)))
+        (ap length (get_or-set_same ms s.rank (with_window s.at (cells_at from s.dim f) (get_or ms s.rank [])) []
+            (let n : length ms ≡ p.ranks = w.0 in omega arith)) ∙ (window_fits from f s ms w lr fit room ∙ w.1 s.rank lr)))
         (λ (ne : r ≡ s.rank → ⊥). ap length (get_or-set_other ms s.rank r (with_window s.at (cells_at from s.dim f) (get_or ms s.rank [])) [] ne) ∙ w.1 r rl)
         (cases_eq r s.rank),
   )
 
   -- one span, on the row of any rank
-  span_row : (r from : ℕ) (f : List ℤ) (s : Owned) (xs : List Cell) (ms : List (List ℤ)) → Wide ms → r < p.ranks → s.rank < p.ranks → s.at + s.dim ≤ l.width s.rank → ((j : ℕ) → j < s.dim → owner_of p (l.cell_at s.rank (s.at + j)) ≡ s.rank) → from + s.dim ≤ length f
-      → scatter (mine r) (l.place r) (cells_from (l.cell_at s.rank) s.at s.dim ++ xs) (drop from f) (get_or ms r []) ≡ scatter (mine r) (l.place r) xs (drop (from + s.dim) f) (get_or (put_span from f s ms) r [])
+  span_row : (r from : ℕ) (f : List ℤ) (s : Owned) (xs : List Cell) (ms : List (List ℤ)) → Wide ms → r < p.ranks → s.rank < p.ranks
+      → s.at + s.dim ≤ l.width s.rank → ((j : ℕ) → j < s.dim → owner_of p (l.cell_at s.rank (s.at + j)) ≡ s.rank) → from + s.dim ≤ length f
+      → scatter (mine r) (l.place r) (cells_from (l.cell_at s.rank) s.at s.dim ++ xs) (drop from f) (get_or ms r []) ≡ scatter (mine r)
+          (l.place r) xs (drop (from + s.dim) f) (get_or (put_span from f s ms) r [])
   span_row r from f s xs ms w rl lr fit own room =
       let left : s.dim ≤ length (drop from f) = omega (arith, length-drop from f) in
       ⊎_elim
       (λ (e : r ≡ s.rank).
-      subst (λ z. scatter (mine z) (l.place z) (cells_from (l.cell_at s.rank) s.at s.dim ++ xs) (drop from f) (get_or ms z []) ≡ scatter (mine z) (l.place z) xs (drop (from + s.dim) f) (get_or (put_span from f s ms) z [])) (sym e)
-      (span_scatter (mine s.rank) (l.place s.rank) (l.cell_at s.rank) (l.width s.rank) (λ i il. q.place_at s.rank i lr il) s.at s.dim true xs (drop from f) (get_or ms s.rank []) (w.1 s.rank lr) fit left
+      subst (λ z. scatter (mine z) (l.place z) (cells_from (l.cell_at s.rank) s.at s.dim ++ xs) (drop from f) (get_or ms z []) ≡ scatter
+          (mine z) (l.place z) xs (drop (from + s.dim) f) (get_or (put_span from f s ms) z [])) (sym e)
+      (span_scatter (mine s.rank) (l.place s.rank) (l.cell_at s.rank) (l.width s.rank) (λ i il. q.place_at s.rank i lr il) s.at s.dim true
+          xs (drop from f) (get_or ms s.rank []) (w.1 s.rank lr) fit left
       (λ j jl. ap (λ z. z == s.rank) (own j jl) ∙ eq-eqb s.rank s.rank refl)
       ∙ (ap (λ z. scatter (mine s.rank) (l.place s.rank) xs z (with_window s.at (cells_at from s.dim f) (get_or ms s.rank []))) (drop-drop s.dim from f)
-      ∙ ap (scatter (mine s.rank) (l.place s.rank) xs (drop (from + s.dim) f)) (sym (get_or-set_same ms s.rank (with_window s.at (cells_at from s.dim f) (get_or ms s.rank [])) [] (let n : length ms ≡ p.ranks = w.0 in omega arith))))))
+      ∙ ap (scatter (mine s.rank) (l.place s.rank) xs (drop (from + s.dim) f))
+          (sym (get_or-set_same ms s.rank (with_window s.at (cells_at from s.dim f) (get_or ms s.rank [])) []
+          (let n : length ms ≡ p.ranks = w.0 in omega arith))))))
       (λ (ne : r ≡ s.rank → ⊥).
       skip_scatter (mine r) (l.place r) (l.cell_at s.rank) s.at s.dim xs (drop from f) (get_or ms r []) left (λ j jl. ne_eqb (owner_of p (l.cell_at s.rank (s.at + j))) r (λ z. ne (sym z ∙ own j jl)))
       ∙ (ap (λ z. scatter (mine r) (l.place r) xs z (get_or ms r [])) (drop-drop s.dim from f)
@@ -82,7 +91,8 @@ module _ {F : Type 0} (p : Setup F) (l : Layout F) (t : Tables) (q : Indexed p l
   scatter_wide from f (s ∷ ss) ms w own room = scatter_wide (from + s.dim) f ss (put_span from f s ms) (wide_put from f s ms w own.0 own.1 (omega arith)) own.3 (omega arith)
 
   rows_scatter : (r from : ℕ) (f : List ℤ) (ss : List Owned) (xs : List Cell) (ms : List (List ℤ)) → Wide ms → r < p.ranks → OwnedBy p l t ss → from + total_all ss ≤ length f
-      → scatter (mine r) (l.place r) (owned_cells l.cell_at ss ++ xs) (drop from f) (get_or ms r []) ≡ scatter (mine r) (l.place r) xs (drop (from + total_all ss) f) (get_or (scattered_all from f ss ms) r [])
+      → scatter (mine r) (l.place r) (owned_cells l.cell_at ss ++ xs) (drop from f) (get_or ms r []) ≡ scatter (mine r) (l.place r) xs
+          (drop (from + total_all ss) f) (get_or (scattered_all from f ss ms) r [])
   rows_scatter r from f [] xs ms w rl own room = ap (λ n. scatter (mine r) (l.place r) xs (drop n f) (get_or ms r [])) (sym (add-zero from))
   rows_scatter r from f (s ∷ ss) xs ms w rl own room =
       ap (λ z. scatter (mine r) (l.place r) z (drop from f) (get_or ms r [])) (append_assoc (cells_from (l.cell_at s.rank) s.at s.dim) (owned_cells l.cell_at ss) xs)
@@ -94,7 +104,9 @@ module _ {F : Type 0} (p : Setup F) (l : Layout F) (t : Tables) (q : Indexed p l
   abbrev At : ℕ → DatCell → Type 0
   At r c = (i : ℕ) × (i < l.width r) × (c ≡ l.cell_at r i)
 
-  among_one : (r a at k n : ℕ) (xs : List Cell) (c : DatCell) → at + k ≤ l.width a → ((j : ℕ) → j < k → owner_of p (l.cell_at a (at + j)) ≡ a) → owner_of p c ≡ r → among (cells_from (l.cell_at a) at k ++ xs) (Data c) ≡ true → At r c ⊎ (among xs (Data c) ≡ true)
+  among_one : (r a at k n : ℕ) (xs : List Cell) (c : DatCell) → at + k ≤ l.width a
+      → ((j : ℕ) → j < k → owner_of p (l.cell_at a (at + j)) ≡ a) → owner_of p c ≡ r
+      → among (cells_from (l.cell_at a) at k ++ xs) (Data c) ≡ true → At r c ⊎ (among xs (Data c) ≡ true)
   among_one r a at zero n xs c fit own mineness h = inr h
   among_one r a at (suc k) n xs c fit own mineness h = ⊎_elim
       (λ (e : same_cell (Data (l.cell_at a at)) (Data c) ≡ true).
@@ -109,10 +121,12 @@ module _ {F : Type 0} (p : Setup F) (l : Layout F) (t : Tables) (q : Indexed p l
       among_one r a (suc at) k n xs c (omega arith) (λ j lt. (let z : at + suc j ≡ suc at + j = omega arith in subst (λ m. owner_of p (l.cell_at a m) ≡ a) z (own (suc j) (omega arith)))) mineness e)
       (or_cases (same_cell (Data (l.cell_at a at)) (Data c)) (among (cells_from (l.cell_at a) (suc at) k ++ xs) (Data c)) h)
 
-  among_owned : (r : ℕ) (ss : List Owned) (xs : List Cell) (c : DatCell) → OwnedBy p l t ss → owner_of p c ≡ r → among (owned_cells l.cell_at ss ++ xs) (Data c) ≡ true → At r c ⊎ (among xs (Data c) ≡ true)
+  among_owned : (r : ℕ) (ss : List Owned) (xs : List Cell) (c : DatCell) → OwnedBy p l t ss → owner_of p c ≡ r
+      → among (owned_cells l.cell_at ss ++ xs) (Data c) ≡ true → At r c ⊎ (among xs (Data c) ≡ true)
   among_owned r [] xs c own mineness h = inr h
   among_owned r (s ∷ ss) xs c own mineness h = ⊎_elim (λ i. inl i) (λ i. among_owned r ss xs c own.3 mineness i)
-      (among_one r s.rank s.at s.dim 0 (owned_cells l.cell_at ss ++ xs) c own.1 own.2 mineness (subst (λ z. among z (Data c) ≡ true) (append_assoc (cells_from (l.cell_at s.rank) s.at s.dim) (owned_cells l.cell_at ss) xs) h))
+      (among_one r s.rank s.at s.dim 0 (owned_cells l.cell_at ss ++ xs) c own.1 own.2 mineness
+          (subst (λ z. among z (Data c) ≡ true) (append_assoc (cells_from (l.cell_at s.rank) s.at s.dim) (owned_cells l.cell_at ss) xs) h))
 
   among_variables : (is : List ℕ) (c : DatCell) → among (index_cells l.variable_at is) (Data c) ≡ true → ⊥
   among_variables [] c h = false≢true h
@@ -128,12 +142,15 @@ module _ {F : Type 0} (p : Setup F) (l : Layout F) (t : Tables) (q : Indexed p l
       at_place c i = let e : l.place r c ≡ i.0 = ap (l.place r) i.2 ∙ q.place_at r i.0 rl i.1 in (let lt : i.0 < l.width r = i.1 in omega arith, ap (l.cell_at r) e ∙ sym i.2)
 
   -- each row after the write is looked up by index
-  pub row_looked_up : LookUp → (r : ℕ) (ss : List Owned) (is : List ℕ) (cells : List Cell) (ws : List ℤ) (ms : List (List ℤ)) → Wide ms → r < p.ranks → OwnedBy p l t ss → total_all ss ≤ length ws → cells ≡ owned_cells l.cell_at ss ++ index_cells l.variable_at is → Once cells
+  pub row_looked_up : LookUp → (r : ℕ) (ss : List Owned) (is : List ℕ) (cells : List Cell) (ws : List ℤ) (ms : List (List ℤ)) → Wide ms
+      → r < p.ranks → OwnedBy p l t ss → total_all ss ≤ length ws → cells ≡ owned_cells l.cell_at ss ++ index_cells l.variable_at is
+      → Once cells
       → get_or (scattered_all 0 ws ss ms) r [] ≡ looked_up (mine r) (l.cell_at r) cells ws (get_or ms r [])
   row_looked_up law r ss is cells ws ms w rl own room e once =
       let xs = owned_cells l.cell_at ss ++ index_cells l.variable_at is in
       let both : scatter (mine r) (l.place r) (owned_cells l.cell_at ss ++ index_cells l.variable_at is) ws (get_or ms r []) ≡ get_or (scattered_all 0 ws ss ms) r [] =
-      rows_scatter r 0 ws ss (index_cells l.variable_at is) ms w rl own (omega arith) ∙ skip_variables (mine r) (l.place r) l.variable_at is (drop (0 + total_all ss) ws) (get_or (scattered_all 0 ws ss ms) r []) in
+      rows_scatter r 0 ws ss (index_cells l.variable_at is) ms w rl own (omega arith)
+          ∙ skip_variables (mine r) (l.place r) l.variable_at is (drop (0 + total_all ss) ws) (get_or (scattered_all 0 ws ss ms) r []) in
       sym both
       ∙ (law (mine r) (l.place r) (l.cell_at r) (owned_cells l.cell_at ss ++ index_cells l.variable_at is) ws (get_or ms r []) (subst Once e once)
       (subst (Placed (mine r) (l.place r) (l.cell_at r) (owned_cells l.cell_at ss ++ index_cells l.variable_at is)) (sym (w.1 r rl)) (placed r ss is rl own))

@@ -37,7 +37,8 @@ module _ {F : Type 0} (st : State F) where
         frames = fs;
       }
 
-  pub passes : (own : Bool) (k r x e : ℕ) (spans : List Span) (scalars : List Scalar) (ran : Core F) → r < length st.frames.panes → x < length (get_or st.frames.panes r []) → pane_at st.frames.panes r x ≡ Shut → 0 < st.frames.left
+  pub passes : (own : Bool) (k r x e : ℕ) (spans : List Span) (scalars : List Scalar) (ran : Core F) → r < length st.frames.panes
+      → x < length (get_or st.frames.panes r []) → pane_at st.frames.panes r x ≡ Shut → 0 < st.frames.left
       → ended own r x spans scalars (begun_as k r x e ran st) ≡ passed own k r e spans scalars ran st
   passes own k r x e spans scalars ran lr lx none some =
       let left : st.frames.left - 1 + 1 ≡ st.frames.left = omega arith in
@@ -46,12 +47,19 @@ module _ {F : Type 0} (st : State F) where
       (ap₂ (λ ps n. record st.frames { panes = ps; left = n }) (open_shut r x (pane_after k ran) st.frames.panes lr none) left)
 
 module _ {F : Type 0} (p : Setup F) (l : Layout F) (t : Tables) (q : Indexed p l t) (z : IsLayout p l) (st : State F) (f : Flat F) (h : Shows p l t st f) where
-  pub pass_step : LookUp → (k r x : ℕ) → IsStep (by_place p l) (Begin k r x) → (spans : List Span) (scalars : List Scalar) → AreWindows p l t k r x spans scalars → pane_at st.frames.panes r x ≡ Shut → 0 < st.frames.left
-      → Shows p l t (passed (p.owner (p.program.set k) (l.original k r x) == r) k r (l.original k r x) spans scalars (l.core k (l.original k r x) (values_at st.variables t.constants) (windows_of st r spans scalars)) st)
+  pub pass_step : LookUp → (k r x : ℕ) → IsStep (by_place p l) (Begin k r x) → (spans : List Span) (scalars : List Scalar)
+      → AreWindows p l t k r x spans scalars → pane_at st.frames.panes r x ≡ Shut → 0 < st.frames.left
+      → Shows p l t (passed (p.owner (p.program.set k) (l.original k r x) == r) k r (l.original k r x) spans scalars
+          (l.core k (l.original k r x) (values_at st.variables t.constants) (windows_of st r spans scalars)) st)
       (flat_step p l (End k r x) (flat_step p l (Begin k r x) f))
   pass_step law k r x plan spans scalars e none some =
       let can = can_begin p l t st f h q k r x plan spans scalars e in
       let begun = begin_step p l t q st f h z k r x plan spans scalars e none in
       subst (λ s. Shows p l t s (flat_step p l (End k r x) (flat_step p l (Begin k r x) f)))
-      (passes st (p.owner (p.program.set k) (l.original k r x) == r) k r x (l.original k r x) spans scalars (l.core k (l.original k r x) (values_at st.variables t.constants) (windows_of st r spans scalars)) can.frame.rank can.frame.place none some)
-      (end_step p l t q (begun_as k r x (l.original k r x) (l.core k (l.original k r x) (values_at st.variables t.constants) (windows_of st r spans scalars)) st) (flat_step p l (Begin k r x) f) begun law k r x plan spans scalars e (λ shut. begin_opens p l k r x f (sym (begun.panes k r x) ∙ shut)))
+      (passes st (p.owner (p.program.set k) (l.original k r x) == r) k r x (l.original k r x) spans scalars
+          (l.core k (l.original k r x) (values_at st.variables t.constants) (windows_of st r spans scalars)) can.frame.rank can.frame.place
+          none some)
+      (end_step p l t q (begun_as k r x (l.original k r x)
+          (l.core k (l.original k r x) (values_at st.variables t.constants) (windows_of st r spans scalars)) st)
+          (flat_step p l (Begin k r x) f) begun law k r x plan spans scalars e
+          (λ shut. begin_opens p l k r x f (sym (begun.panes k r x) ∙ shut)))

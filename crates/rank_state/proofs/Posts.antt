@@ -35,7 +35,9 @@ queue_append : (s r : ℕ) (xs ys : List Post) → queue s r (xs ++ ys) ≡ queu
 queue_append s r [] ys = refl
 queue_append s r (x ∷ xs) ys = by_test (is_of s r x) (queue_append s r xs ys)
   where
-    by_test : (b : Bool) → queue s r (xs ++ ys) ≡ queue s r xs ++ queue s r ys → cond b (post_of x ∷ queue s r (xs ++ ys)) (queue s r (xs ++ ys)) ≡ cond b (post_of x ∷ queue s r xs) (queue s r xs) ++ queue s r ys
+    by_test : (b : Bool) → queue s r (xs ++ ys) ≡ queue s r xs ++ queue s r ys
+        → cond b (post_of x ∷ queue s r (xs ++ ys)) (queue s r (xs ++ ys)) ≡ cond b (post_of x ∷ queue s r xs) (queue s r xs) ++ queue s r
+        ys
     by_test true h = ap (λ z. post_of x ∷ z) h
     by_test false h = h
 
@@ -109,7 +111,8 @@ module _ {F : Type 0} (p : Setup F) (l : Layout F) (t : Tables) where
   whole_first s r [] y h e = cc
   whole_first s r (x ∷ ps) y h e = by_test (is_of s r x) refl e (whole_first s r ps y h.1)
     where
-      by_test : (b : Bool) → is_of s r x ≡ b → cond b (Some x) (first_post s r ps) ≡ Some y → (first_post s r ps ≡ Some y → length y.values ≡ length (l.exports y.item s r)) → length y.values ≡ length (l.exports y.item s r)
+      by_test : (b : Bool) → is_of s r x ≡ b → cond b (Some x) (first_post s r ps) ≡ Some y
+          → (first_post s r ps ≡ Some y → length y.values ≡ length (l.exports y.item s r)) → length y.values ≡ length (l.exports y.item s r)
       by_test true i e ih =
           let j : (x.from ≡ s) × (x.to ≡ r) = pair_true x.from x.to s r i in
           let same : x ≡ y = cc in
@@ -122,6 +125,7 @@ first_of s r [] k ks h = cc
 first_of s r (x ∷ ps) k ks h = by_test (is_of s r x) h (first_of s r ps k ks)
   where
     by_test : (b : Bool) → map (λ (z : flat.Post). z.about) (cond b (post_of x ∷ queue s r ps) (queue s r ps)) ≡ k ∷ ks
-        → (map (λ (z : flat.Post). z.about) (queue s r ps) ≡ k ∷ ks → (y : Post) × (first_post s r ps ≡ Some y) × (y.item ≡ k)) → (y : Post) × (cond b (Some x) (first_post s r ps) ≡ Some y) × (y.item ≡ k)
+        → (map (λ (z : flat.Post). z.about) (queue s r ps) ≡ k ∷ ks → (y : Post) × (first_post s r ps ≡ Some y) × (y.item ≡ k)) → (y : Post)
+            × (cond b (Some x) (first_post s r ps) ≡ Some y) × (y.item ≡ k)
     by_test true e ih = (x, refl, (let j : x.item ≡ k = cc in j))
     by_test false e ih = ih e

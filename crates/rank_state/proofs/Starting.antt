@@ -70,10 +70,12 @@ none_at (n ∷ places) zero x = none_in n x
 none_at (n ∷ places) (suc r) x = none_at places r x
 
 module _ {F : Type 0} (p : Setup F) (l : Layout F) (t : Tables) where
-  pub starts_from : (memories : List (List ℤ)) (variables : List ℤ) (slots : List Operation) (places : List ℕ) (frames mail : ℕ) → AreFirst p l t memories variables → AreSlots p l t slots → ArePlaces p l t places
+  pub starts_from : (memories : List (List ℤ)) (variables : List ℤ) (slots : List Operation) (places : List ℕ) (frames mail : ℕ)
+      → AreFirst p l t memories variables → AreSlots p l t slots → ArePlaces p l t places
       → Starts p l t (started memories variables slots places frames mail t.stride)
   starts_from memories variables slots places frames mail h o a =
-      let row : (r : ℕ) → r < p.ranks → get_or (map (λ (m : List ℤ). units slots) memories) r [] ≡ units slots = λ r lt. get_or-map (λ (m : List ℤ). units slots) memories r [] [] (let e = h.ranks in omega arith) in
+      let row : (r : ℕ) → r < p.ranks → get_or (map (λ (m : List ℤ). units slots) memories) r [] ≡ units slots =
+          λ r lt. get_or-map (λ (m : List ℤ). units slots) memories r [] [] (let e = h.ranks in omega arith) in
       record {
         sized = record {
           ranks = h.ranks;

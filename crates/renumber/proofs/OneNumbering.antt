@@ -73,7 +73,9 @@ module _ (one : IsOneOrder) (degrees : DegreesAreApart) (g : MeshValue) (m : ℕ
       let s = sizes (map_from g m) in
       low_parts (least_below (map_dim g m) (λ i. numbers (target g m x i))) (least_below (map_dim g m) (λ i. numbers (target g m y i))) x y (omega arith) (omega arith) e
 
-  same_keys : (xs : List ℕ) (f h : ℕ → ℕ) → IsNumbering (set_size g (map_to g m)) xs → ((k : ℕ) → k < length xs → f (get_or xs k 0) ≡ k) → ((k : ℕ) → k < length xs → h (get_or xs k 0) ≡ k) → (x : ℕ) → x < set_size g (map_from g m) → target_key g m f x ≡ target_key g m h x
+  same_keys : (xs : List ℕ) (f h : ℕ → ℕ) → IsNumbering (set_size g (map_to g m)) xs → ((k : ℕ) → k < length xs → f (get_or xs k 0) ≡ k)
+      → ((k : ℕ) → k < length xs → h (get_or xs k 0) ≡ k) → (x : ℕ) → x < set_size g (map_from g m)
+      → target_key g m f x ≡ target_key g m h x
   unfolding target_key
   same_keys xs f h num ef eh x lx = ap (λ z. z * 2 ^ 32 + x) (same_least (map_dim g m) (λ i. f (target g m x i)) (λ i. h (target g m x i))
       (λ i li.
@@ -81,7 +83,8 @@ module _ (one : IsOneOrder) (degrees : DegreesAreApart) (g : MeshValue) (m : ℕ
       let l : w.0 < length xs = omega (arith, num.length, w.1) in
       subst (λ z. f z ≡ h z) w.2 (ef w.0 l ∙ sym (eh w.0 l))))
 
-  one_leading : (xs ys zs : List ℕ) → IsNumbering (set_size g (map_to g m)) xs → IsNumbering (set_size g (map_from g m)) ys → IsNumbering (set_size g (map_from g m)) zs → IsByTargets g m xs ys → IsByTargets g m xs zs → ys ≡ zs
+  one_leading : (xs ys zs : List ℕ) → IsNumbering (set_size g (map_to g m)) xs → IsNumbering (set_size g (map_from g m)) ys
+      → IsNumbering (set_size g (map_from g m)) zs → IsByTargets g m xs ys → IsByTargets g m xs zs → ys ≡ zs
   one_leading xs ys zs nx ny nz h k =
       let n : ℕ = set_size g (map_from g m) in
       let key : ℕ → ℕ = target_key g m h.numbers in

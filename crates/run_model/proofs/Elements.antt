@@ -49,7 +49,8 @@ module _ (shape : ShapeStays) (b : BoundValue) (site : SiteValue) (e : ℕ) (k :
       end (entries b) (dat_width b) (var_width b) (argument_at site) (length site.args) e (modes_of b site) (cell_of b site e) (window_cells b site.args e) (windows b site.args e)
       (windows_are_reached b site e) (is_argument b site) reach s (kernel_meaning (windows b site.args e) (constant_values b s) k (map s (window_cells b site.args e) ∷ []))
       ((shape k (windows b site.args e) (constant_values b s) (map s (window_cells b site.args e) ∷ [])
-      (fit (entries b) (dat_width b) (var_width b) (argument_at site) (length site.args) e (modes_of b site) (cell_of b site e) (window_cells b site.args e) (windows b site.args e) (windows_are_reached b site e) s)).1 0
+      (fit (entries b) (dat_width b) (var_width b) (argument_at site) (length site.args) e (modes_of b site) (cell_of b site e)
+          (window_cells b site.args e) (windows b site.args e) (windows_are_reached b site e) s)).1 0
       ∙ length-map (window_cells b site.args e) s)
 
   runs_kernel : RunsKernel b site e k (run_of b (Some k) site e)
@@ -66,7 +67,8 @@ module _ (shape : ShapeStays) (b : BoundValue) (site : SiteValue) (e : ℕ) (k :
       targets = λ s. windows b site.args e;
       lists = λ s. map s (window_cells b site.args e) ∷ [];
       in_range = windows_in_range (window_cells b site.args e);
-      held = hold (entries b) (dat_width b) (var_width b) (argument_at site) (length site.args) e (modes_of b site) (cell_of b site e) (window_cells b site.args e) (windows b site.args e) (windows_are_reached b site e);
+      held = hold (entries b) (dat_width b) (var_width b) (argument_at site) (length site.args) e (modes_of b site) (cell_of b site e)
+          (window_cells b site.args e) (windows b site.args e) (windows_are_reached b site e);
       ends = ends;
     };
     consts = λ s. refl;

@@ -83,8 +83,10 @@ pub windows_are_reached : WindowsAreReached
 windows_are_reached b site e = record {
   counts = λ a. counted b site e site.args a;
   arrays = λ a i lt. first b site e site.args a;
-  inside = λ a i lt. subst (λ k. k + i < length (window_cells b site.args e)) (sym (starts b site e a i lt)) (inside b (all b site e) (by_arg b site e a) i (there b site e a i lt) (within b site e a i lt));
-  are = λ a i lt. ap (λ k. get_or (window_cells b site.args e) (k + i) no_cell) (starts b site e a i lt) ∙ stands b (all b site e) (by_arg b site e a) i (there b site e a i lt) (within b site e a i lt);
+  inside = λ a i lt. subst (λ k. k + i < length (window_cells b site.args e)) (sym (starts b site e a i lt))
+      (inside b (all b site e) (by_arg b site e a) i (there b site e a i lt) (within b site e a i lt));
+  are = λ a i lt. ap (λ k. get_or (window_cells b site.args e) (k + i) no_cell) (starts b site e a i lt)
+      ∙ stands b (all b site e) (by_arg b site e a) i (there b site e a i lt) (within b site e a i lt);
   covered = λ j lt. covered b site e j (at_place b (all b site e) j (distinct (map (reached b e) site.args)) lt);
   once = λ i j li lj same. once b (all b site e) i j (distinct (map (reached b e) site.args)) li lj same;
 }

@@ -91,7 +91,8 @@ pub record Reached (b : BoundValue) (ms : List RankMesh) (p : PlanValue) (l come
   pub loads : d.steps.load ≡ loaded_all (plan_cells b ms p) front no_load
   pub few : step + untaken (taken_in d) (standard (step_outline b ms p) 1) ≤ step_count (step_outline b ms p)
 
-module _ (b : BoundValue) (meshes : List RankMesh) (p : PlanValue) (tests : (n : Outline) (s : Step) → (is_step n s ≡ true) ↔ IsStep n s) (standards : (n : Outline) (g : ℕ) → Accepted n (standard n g)) (l : List Step) where
+module _ (b : BoundValue) (meshes : List RankMesh) (p : PlanValue) (tests : (n : Outline) (s : Step) → (is_step n s ≡ true) ↔ IsStep n s)
+    (standards : (n : Outline) (g : ℕ) → Accepted n (standard n g)) (l : List Step) where
   abbrev o : Outline
   o = step_outline b meshes p
 

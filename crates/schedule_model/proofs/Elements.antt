@@ -68,14 +68,16 @@ module _ {F : Type 0} (p : Setup F) (q : Law p) (m : Step → Bool) (st : State 
       (λ w. inr (λ x. keeps p q k a (store_at p k) (Data c) x w))
       (cases_Bool (is_modified (p.touch k a (Data c)))))
 
-  run_is : Ready (outline p) m (Begin k r e) → Says p m st r k → is_going (seq p.program k) ≡ true → p.program.run k e (view p k r st) ≡ outcome (fault p k e (store_at p k)) (λ c. effect p k e (store_at p k) c (view p k r st c))
+  run_is : Ready (outline p) m (Begin k r e) → Says p m st r k → is_going (seq p.program k) ≡ true
+      → p.program.run k e (view p k r st) ≡ outcome (fault p k e (store_at p k)) (λ c. effect p k e (store_at p k) c (view p k r st c))
   run_is rd h g =
       let plan : IsStep (outline p) (Begin k r e) = rd.planned in
       runs p q k e (store_at p k) (view p k r st) (free_kind (p.program.kind k) plan.1) (run_below p k r e plan.3).0 (good_store p q k g) (good_view p q st inv.sane k r) (reads_before rd h g)
 
   -- what a begin leaves, in either case
   keeps_opened : Ready (outline p) m (Begin k r e) → At p m st r k → (x : Frame) (b : State F)
-      → Sane b → b.stop ≡ None → b.mail ≡ st.mail → b.output ≡ st.output → b.memories ≡ st.memories → b.variables ≡ st.variables → b.partials ≡ st.partials → b.frames ≡ put3 k r e x st.frames → Each (Recorded p) b.faults
+      → Sane b → b.stop ≡ None → b.mail ≡ st.mail → b.output ≡ st.output → b.memories ≡ st.memories → b.variables ≡ st.variables
+          → b.partials ≡ st.partials → b.frames ≡ put3 k r e x st.frames → Each (Recorded p) b.faults
       → ((x : Stop F) → Member x st.faults → Member x b.faults)
       → (is_going (seq p.program k) ≡ true → (f : F) → fault p k e (store_at p k) ≡ Some f → Member (record { item = k; element = Some e; fault = f }) b.faults)
       → (is_going (seq p.program k) ≡ true → FrameIs p k e (st.memories r) (fault p k e (store_at p k)) x)
@@ -157,27 +159,36 @@ module _ {F : Type 0} (p : Setup F) (q : Law p) (m : Step → Bool) (st : State 
 
   -- ---- end
   other_end : (a : ℕ) → (a ≡ e → ⊥) → mark (End k r e) m (End k r a) ≡ m (End k r a)
-  other_end a ne = mark_else (End k r e) m (End k r a) (λ i. ne (let j : (k ≡ k) × (r ≡ r) × (a ≡ e) = same3_true k r a k r e (subst (λ z. same z (End k r e) ≡ true) (sym i) (same3_refl k r e)) in j.2))
+  other_end a ne = mark_else (End k r e) m (End k r a)
+      (λ i. ne (let j : (k ≡ k) × (r ≡ r) × (a ≡ e) = same3_true k r a k r e
+      (subst (λ z. same z (End k r e) ≡ true) (sym i) (same3_refl k r e)) in j.2))
 
   ended_value : Ready (outline p) m (End k r e) → (c : DatCell) → value_at p (mark (End k r e) m) r k c ≡ effect p k e (store_at p k) (Data c) (value_at p m r k c)
   ended_value rd c =
       let plan : IsStep (outline p) (End k r e) = rd.planned in
-      folded_mark (elements p.program k) (elements p.program k) (λ a. m (End k r a)) (λ a. mark (End k r e) m (End k r a)) (λ a. effect p k a (store_at p k) (Data c)) (store_at p k (Data c)) e (omega arith)
+      folded_mark (elements p.program k) (elements p.program k) (λ a. m (End k r a)) (λ a. mark (End k r e) m (End k r a))
+          (λ a. effect p k a (store_at p k) (Data c)) (store_at p k (Data c)) e (omega arith)
       (commutes p q k (store_at p k) (Data c) (free_kind (p.program.kind k) plan.1)) (run_below p k r e plan.3).0 rd.untaken (mark_self (End k r e) m) other_end
 
-  ended_part : Ready (outline p) m (End k r e) → (v : VarCell) → part_at p (mark (End k r e) m) r v k ≡ cond (p.owner (p.program.set k) e == r) (effect p k e (store_at p k) (Variable v) (part_at p m r v k)) (part_at p m r v k)
+  ended_part : Ready (outline p) m (End k r e) → (v : VarCell)
+      → part_at p (mark (End k r e) m) r v k ≡ cond (p.owner (p.program.set k) e == r)
+      (effect p k e (store_at p k) (Variable v) (part_at p m r v k)) (part_at p m r v k)
   ended_part rd v =
       let plan : IsStep (outline p) (End k r e) = rd.planned in
       ⊎_elim
       (λ (y : (p.owner (p.program.set k) e == r) ≡ true).
-      folded_mark (elements p.program k) (elements p.program k) (λ a. (p.owner (p.program.set k) a == r) && m (End k r a)) (λ a. (p.owner (p.program.set k) a == r) && mark (End k r e) m (End k r a)) (λ a. effect p k a (store_at p k) (Variable v)) (unit_at (p.reduces (p.program.site k) v)) e (omega arith)
+      folded_mark (elements p.program k) (elements p.program k) (λ a. (p.owner (p.program.set k) a == r) && m (End k r a))
+          (λ a. (p.owner (p.program.set k) a == r) && mark (End k r e) m (End k r a)) (λ a. effect p k a (store_at p k) (Variable v))
+          (unit_at (p.reduces (p.program.site k) v)) e (omega arith)
       (commutes p q k (store_at p k) (Variable v) (free_kind (p.program.kind k) plan.1)) (run_below p k r e plan.3).0
       (and_right (p.owner (p.program.set k) e == r) (m (End k r e)) rd.untaken)
       (and_from (p.owner (p.program.set k) e == r) (mark (End k r e) m (End k r e)) y (mark_self (End k r e) m))
       (λ a ne. ap (λ b. (p.owner (p.program.set k) a == r) && b) (other_end a ne))
       ∙ sym (cond-true (p.owner (p.program.set k) e == r) (effect p k e (store_at p k) (Variable v) (part_at p m r v k)) (part_at p m r v k) y))
       (λ (y : (p.owner (p.program.set k) e == r) ≡ false).
-      folded_same (elements p.program k) (λ a. (p.owner (p.program.set k) a == r) && mark (End k r e) m (End k r a)) (λ a. (p.owner (p.program.set k) a == r) && m (End k r a)) (λ a. effect p k a (store_at p k) (Variable v)) (unit_at (p.reduces (p.program.site k) v))
+      folded_same (elements p.program k) (λ a. (p.owner (p.program.set k) a == r) && mark (End k r e) m (End k r a))
+          (λ a. (p.owner (p.program.set k) a == r) && m (End k r a)) (λ a. effect p k a (store_at p k) (Variable v))
+          (unit_at (p.reduces (p.program.site k) v))
       (λ a le. inl (⊎_elim
       (λ (j : a ≡ e). let foreign : (p.owner (p.program.set k) a == r) ≡ false = subst (λ z. (p.owner (p.program.set k) z == r) ≡ false) (sym j) y in
       and_left (p.owner (p.program.set k) a == r) (mark (End k r e) m (End k r a)) foreign ∙ sym (and_left (p.owner (p.program.set k) a == r) (m (End k r a)) foreign))
@@ -212,7 +223,9 @@ module _ {F : Type 0} (p : Setup F) (q : Law p) (m : Step → Bool) (st : State 
       → ((x : ℕ) → (x ≡ r → ⊥) → (s : ℕ) (v : VarCell) → b.partials x s v ≡ st.partials x s v)
       → (is_going (seq p.program k) ≡ true → (c : DatCell) → b.memories r c ≡ effect p k e (store_at p k) (Data c) (st.memories r c))
       → ((c : DatCell) → is_modified (p.touch k e (Data c)) ≡ false → b.memories r c ≡ st.memories r c)
-      → (is_going (seq p.program k) ≡ true → (s : ℕ) (v : VarCell) → s ≡ p.program.site k → b.partials r s v ≡ cond (p.owner (p.program.set k) e == r) (effect p k e (store_at p k) (Variable v) (st.partials r s v)) (st.partials r s v))
+      → (is_going (seq p.program k) ≡ true → (s : ℕ) (v : VarCell) → s ≡ p.program.site k
+          → b.partials r s v ≡ cond (p.owner (p.program.set k) e == r) (effect p k e (store_at p k) (Variable v) (st.partials r s v))
+          (st.partials r s v))
       → ((s : ℕ) (v : VarCell) → (s ≡ p.program.site k → ⊥) → b.partials r s v ≡ st.partials r s v)
       → Inv p (mark (End k r e) m) b
   keeps_closed rd two here b sane stop mail out vars faults frames others other_parts changed kept merges still = record {
@@ -242,7 +255,9 @@ module _ {F : Type 0} (p : Setup F) (q : Law p) (m : Step → Bool) (st : State 
                   subst (λ G. FrameIs p k a (b.memories r) (fault p k a (store_at p k)) (G k r a)) (sym frames)
                   (subst (FrameIs p k a (b.memories r) (fault p k a (store_at p k))) (sym (cond-false (same3 k r a k r e) Shut (st.frames k r a) parts.0))
                   (frame_like p k a (st.memories r) (b.memories r) (fault p k a (store_at p k)) (st.frames k r a)
-                  (λ c w. kept c (false_from_ne_true (is_modified (p.touch k e (Data c))) (λ v. two k r a e c t parts.1 (rd.after (Begin k r e) rd.planned begun) rd.untaken ne w v))) (here.says.frames g a t parts.1)));
+                  (λ c w. kept c (false_from_ne_true (is_modified (p.touch k e (Data c)))
+                      (λ v. two k r a e c t parts.1 (rd.after (Begin k r e) rd.planned begun) rd.untaken ne w v)))
+                      (here.says.frames g a t parts.1)));
             };
           },
         ))
@@ -261,12 +276,15 @@ module _ {F : Type 0} (p : Setup F) (q : Law p) (m : Step → Bool) (st : State 
   stays None i (Holds t) j h c v = ⊎_elim (λ x. cc) (λ x. cc) j
 
   -- nothing changes but the frame
-  keeps_shut : Ready (outline p) m (End k r e) → Apart p m → At p m st r k → (x : Frame) → (x ≡ Broken) ⊎ (x ≡ Shut) → (is_going (seq p.program k) ≡ true → FrameIs p k e (st.memories r) (fault p k e (store_at p k)) x)
+  keeps_shut : Ready (outline p) m (End k r e) → Apart p m → At p m st r k → (x : Frame) → (x ≡ Broken) ⊎ (x ≡ Shut)
+      → (is_going (seq p.program k) ≡ true → FrameIs p k e (st.memories r) (fault p k e (store_at p k)) x)
       → Sane (record st { frames = put3 k r e Shut st.frames }) → Inv p (mark (End k r e) m) (record st { frames = put3 k r e Shut st.frames })
   keeps_shut rd two here x j h sane = keeps_closed rd two here (record st { frames = put3 k r e Shut st.frames }) sane inv.running refl refl refl refl refl (λ y ne c. refl) (λ y ne s v. refl)
       (λ g c. stays (fault p k e (store_at p k)) refl x j (h g) (Data c) (st.memories r c)) (λ c w. refl)
       (λ g s v y. ⊎_elim
-      (λ t. stays (fault p k e (store_at p k)) refl x j (h g) (Variable v) (st.partials r s v) ∙ sym (cond-true (p.owner (p.program.set k) e == r) (effect p k e (store_at p k) (Variable v) (st.partials r s v)) (st.partials r s v) t))
+      (λ t. stays (fault p k e (store_at p k)) refl x j (h g) (Variable v) (st.partials r s v)
+          ∙ sym (cond-true (p.owner (p.program.set k) e == r) (effect p k e (store_at p k) (Variable v) (st.partials r s v))
+          (st.partials r s v) t))
       (λ t. sym (cond-false (p.owner (p.program.set k) e == r) (effect p k e (store_at p k) (Variable v) (st.partials r s v)) (st.partials r s v) t))
       (cases_Bool (p.owner (p.program.set k) e == r)))
       (λ s v y. refl)
@@ -299,7 +317,9 @@ module _ {F : Type 0} (p : Setup F) (q : Law p) (m : Step → Bool) (st : State 
     abbrev parts_back : VarCell → ℤ
     parts_back v = cond (p.owner (p.program.set k) e == r) (merge_at (p.reduces (p.program.site k) v) (st.partials r (p.program.site k) v) (t (Variable v))) (st.partials r (p.program.site k) v)
 
-    keeps_back : Ready (outline p) m (End k r e) → Apart p m → At p m st r k → (is_going (seq p.program k) ≡ true → FrameIs p k e (st.memories r) (fault p k e (store_at p k)) (Holds t)) → Sane (written_back p k r e t st) → Inv p (mark (End k r e) m) (written_back p k r e t st)
+    keeps_back : Ready (outline p) m (End k r e) → Apart p m → At p m st r k
+        → (is_going (seq p.program k) ≡ true → FrameIs p k e (st.memories r) (fault p k e (store_at p k)) (Holds t))
+        → Sane (written_back p k r e t st) → Inv p (mark (End k r e) m) (written_back p k r e t st)
     keeps_back rd two here h sane =
         let plan : IsStep (outline p) (End k r e) = rd.planned in
         let fr : p.program.kind k ≡ Free = free_kind (p.program.kind k) plan.1 in
@@ -309,7 +329,8 @@ module _ {F : Type 0} (p : Setup F) (q : Law p) (m : Step → Bool) (st : State 
         (λ x ne s v. ap (λ f. f v) (cond-false ((x == r) && (s == p.program.site k)) parts_back (st.partials x s) (and_left (x == r) (s == p.program.site k) (ne_eqb x r ne))))
         (λ g c. put_same r cells_back st.memories c ∙ ⊎_elim
         (λ (w : is_modified (p.touch k e (Data c)) ≡ true). cond-true (is_modified (p.touch k e (Data c))) (t (Data c)) (st.memories r c) w ∙ (windows t (fault p k e (store_at p k)) (h g)).0 c w)
-        (λ (w : is_modified (p.touch k e (Data c)) ≡ false). cond-false (is_modified (p.touch k e (Data c))) (t (Data c)) (st.memories r c) w ∙ sym (keeps p q k e (store_at p k) (Data c) (st.memories r c) w))
+        (λ (w : is_modified (p.touch k e (Data c)) ≡ false). cond-false (is_modified (p.touch k e (Data c))) (t (Data c)) (st.memories r c)
+            w ∙ sym (keeps p q k e (store_at p k) (Data c) (st.memories r c) w))
         (cases_Bool (is_modified (p.touch k e (Data c)))))
         (λ c w. put_same r cells_back st.memories c ∙ cond-false (is_modified (p.touch k e (Data c))) (t (Data c)) (st.memories r c) w)
         (λ g s v y.
@@ -318,7 +339,9 @@ module _ {F : Type 0} (p : Setup F) (q : Law p) (m : Step → Bool) (st : State 
         ∙ (⊎_elim
         (λ (o : (p.owner (p.program.set k) e == r) ≡ true).
         cond-true (p.owner (p.program.set k) e == r) (merge_at (p.reduces (p.program.site k) v) (st.partials r (p.program.site k) v) (t (Variable v))) (st.partials r (p.program.site k) v) o
-        ∙ (amount_in fr run.0 v (t (Variable v)) (st.partials r (p.program.site k) v) (sym (merge_unit p q (p.reduces (p.program.site k) v) (st.partials r (p.program.site k) v) (inv.sane.parts r (p.program.site k) v))) ((windows t (fault p k e (store_at p k)) (h g)).1 v)
+        ∙ (amount_in fr run.0 v (t (Variable v)) (st.partials r (p.program.site k) v)
+            (sym (merge_unit p q (p.reduces (p.program.site k) v) (st.partials r (p.program.site k) v)
+            (inv.sane.parts r (p.program.site k) v))) ((windows t (fault p k e (store_at p k)) (h g)).1 v)
         ∙ sym (cond-true (p.owner (p.program.set k) e == r) (effect p k e (store_at p k) (Variable v) (st.partials r (p.program.site k) v)) (st.partials r (p.program.site k) v) o)))
         (λ (o : (p.owner (p.program.set k) e == r) ≡ false).
         cond-false (p.owner (p.program.set k) e == r) (merge_at (p.reduces (p.program.site k) v) (st.partials r (p.program.site k) v) (t (Variable v))) (st.partials r (p.program.site k) v) o
@@ -327,7 +350,9 @@ module _ {F : Type 0} (p : Setup F) (q : Law p) (m : Step → Bool) (st : State 
         ∙ ap (λ z. cond (p.owner (p.program.set k) e == r) (effect p k e (store_at p k) (Variable v) z) z) (sym old)))
         (λ s v ne. ap (λ f. f v) (cond-false ((r == r) && (s == p.program.site k)) parts_back (st.partials r s) (and_right (r == r) (s == p.program.site k) (ne_eqb s (p.program.site k) ne))))
 
-  keeps_frame : Ready (outline p) m (End k r e) → Apart p m → At p m st r k → (x : Frame) → (is_going (seq p.program k) ≡ true → FrameIs p k e (st.memories r) (fault p k e (store_at p k)) x) → Sane (closed p k r e x st) → Inv p (mark (End k r e) m) (closed p k r e x st)
+  keeps_frame : Ready (outline p) m (End k r e) → Apart p m → At p m st r k → (x : Frame)
+      → (is_going (seq p.program k) ≡ true → FrameIs p k e (st.memories r) (fault p k e (store_at p k)) x) → Sane (closed p k r e x st)
+      → Inv p (mark (End k r e) m) (closed p k r e x st)
   keeps_frame rd two here Shut h sane = keeps_shut rd two here Shut (inr refl) h sane
   keeps_frame rd two here Broken h sane = keeps_shut rd two here Broken (inl refl) h sane
   keeps_frame rd two here (Holds t) h sane = keeps_back t rd two here h sane

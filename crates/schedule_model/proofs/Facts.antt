@@ -84,7 +84,8 @@ pub record Says {F : Type 0} (p : Setup F) (m : Step → Bool) (st : State F) (r
   pub parts : is_going (seq p.program k) ≡ true → (s : ℕ) (v : VarCell) → st.partials r s v ≡ part_value p m r k s v
   pub frames : is_going (seq p.program k) ≡ true → (e : ℕ) → m (Begin k r e) ≡ true → m (End k r e) ≡ false → FrameIs p k e (st.memories r) (fault p k e (store_at p k)) (st.frames k r e)
 
-pub frame_like : {F : Type 0} (p : Setup F) (k e : ℕ) (u v : DatCell → ℤ) (b : Option F) (f : Frame) → ((c : DatCell) → is_modified (p.touch k e (Data c)) ≡ true → v c ≡ u c) → FrameIs p k e u b f → FrameIs p k e v b f
+pub frame_like : {F : Type 0} (p : Setup F) (k e : ℕ) (u v : DatCell → ℤ) (b : Option F) (f : Frame)
+    → ((c : DatCell) → is_modified (p.touch k e (Data c)) ≡ true → v c ≡ u c) → FrameIs p k e u b f → FrameIs p k e v b f
 frame_like p k e u v None (Holds t) same h = (λ c w. h.0 c w ∙ ap (effect p k e (store_at p k) (Data c)) (sym (same c w)), h.1)
 frame_like p k e u v (Some f) Broken same h = tt
 frame_like p k e u v None Broken same h = h
@@ -98,22 +99,30 @@ fresh_like p m w r k c same (came e x t) = came e x (same t)
 
 pub part_like : {F : Type 0} (p : Setup F) (m w : Step → Bool) (r k s : ℕ) (v : VarCell) → ((j e : ℕ) → w (End j r e) ≡ m (End j r e)) → part_value p m r k s v ≡ part_value p w r k s v
 part_like p m w r k s v same = ap (λ x. cond (is_merging (p.program.kind k) && (s == p.program.site k)) x (unit_at (p.reduces s v)))
-    (folded_same (elements p.program (source p k)) (λ e. (p.owner (p.program.set (source p k)) e == r) && m (End (source p k) r e)) (λ e. (p.owner (p.program.set (source p k)) e == r) && w (End (source p k) r e)) (λ e. effect p (source p k) e (store_at p (source p k)) (Variable v)) (unit_at (p.reduces (p.program.site (source p k)) v))
+    (folded_same (elements p.program (source p k)) (λ e. (p.owner (p.program.set (source p k)) e == r) && m (End (source p k) r e))
+        (λ e. (p.owner (p.program.set (source p k)) e == r) && w (End (source p k) r e))
+        (λ e. effect p (source p k) e (store_at p (source p k)) (Variable v)) (unit_at (p.reduces (p.program.site (source p k)) v))
     (λ e lt. inl (ap (λ b. (p.owner (p.program.set (source p k)) e == r) && b) (sym (same (source p k) e)))))
 
-pub part_else : {F : Type 0} (p : Setup F) (m : Step → Bool) (r k s : ℕ) (v : VarCell) → (is_merging (p.program.kind k) && (s == p.program.site k)) ≡ false → part_value p m r k s v ≡ unit_at (p.reduces s v)
+pub part_else : {F : Type 0} (p : Setup F) (m : Step → Bool) (r k s : ℕ) (v : VarCell)
+    → (is_merging (p.program.kind k) && (s == p.program.site k)) ≡ false → part_value p m r k s v ≡ unit_at (p.reduces s v)
 part_else p m r k s v h = cond-false (is_merging (p.program.kind k) && (s == p.program.site k)) (part_at p m r v (source p k)) (unit_at (p.reduces s v)) h
 
 pub part_here : {F : Type 0} (p : Setup F) (m : Step → Bool) (r k : ℕ) (v : VarCell) → is_merging (p.program.kind k) ≡ true → part_value p m r k (p.program.site k) v ≡ part_at p m r v (source p k)
-part_here p m r k v h = cond-true (is_merging (p.program.kind k) && (p.program.site k == p.program.site k)) (part_at p m r v (source p k)) (unit_at (p.reduces (p.program.site k) v)) (and_from (is_merging (p.program.kind k)) (p.program.site k == p.program.site k) h (eq-eqb (p.program.site k) (p.program.site k) refl))
+part_here p m r k v h = cond-true (is_merging (p.program.kind k) && (p.program.site k == p.program.site k)) (part_at p m r v (source p k))
+    (unit_at (p.reduces (p.program.site k) v))
+    (and_from (is_merging (p.program.kind k)) (p.program.site k == p.program.site k) h (eq-eqb (p.program.site k) (p.program.site k) refl))
 
 -- where no element of the item has ended
-pub part_none : {F : Type 0} (p : Setup F) (m : Step → Bool) (r k s : ℕ) (v : VarCell) → is_reduce (p.program.kind k) ≡ false → ((e : ℕ) → m (End k r e) ≡ false) → part_value p m r k s v ≡ unit_at (p.reduces s v)
+pub part_none : {F : Type 0} (p : Setup F) (m : Step → Bool) (r k s : ℕ) (v : VarCell) → is_reduce (p.program.kind k) ≡ false
+    → ((e : ℕ) → m (End k r e) ≡ false) → part_value p m r k s v ≡ unit_at (p.reduces s v)
 part_none p m r k s v n none = ⊎_elim
     (λ (t : (is_merging (p.program.kind k) && (s == p.program.site k)) ≡ true).
     cond-true (is_merging (p.program.kind k) && (s == p.program.site k)) (part_at p m r v (source p k)) (unit_at (p.reduces s v)) t
     ∙ (ap (part_at p m r v) (source_self p k n)
-    ∙ (folded_none (elements p.program k) (λ e. (p.owner (p.program.set k) e == r) && m (End k r e)) (λ e. effect p k e (store_at p k) (Variable v)) (unit_at (p.reduces (p.program.site k) v)) (λ e le. inl (and_right (p.owner (p.program.set k) e == r) (m (End k r e)) (none e)))
+    ∙ (folded_none (elements p.program k) (λ e. (p.owner (p.program.set k) e == r) && m (End k r e))
+        (λ e. effect p k e (store_at p k) (Variable v)) (unit_at (p.reduces (p.program.site k) v))
+        (λ e le. inl (and_right (p.owner (p.program.set k) e == r) (m (End k r e)) (none e)))
     ∙ ap (λ i. unit_at (p.reduces i v)) (sym (eqb-true s (p.program.site k) (second (is_merging (p.program.kind k)) (s == p.program.site k) t))))))
     (λ (t : (is_merging (p.program.kind k) && (s == p.program.site k)) ≡ false). part_else p m r k s v t)
     (cases_Bool (is_merging (p.program.kind k) && (s == p.program.site k)))
@@ -123,12 +132,14 @@ part_none p m r k s v n none = ⊎_elim
     second false b h = absurd (false≢true h)
 
 pub value_like : {F : Type 0} (p : Setup F) (m w : Step → Bool) (r k : ℕ) (c : DatCell) → ((e : ℕ) → w (End k r e) ≡ m (End k r e)) → value_at p m r k c ≡ value_at p w r k c
-value_like p m w r k c same = folded_same (elements p.program k) (λ e. m (End k r e)) (λ e. w (End k r e)) (λ e. effect p k e (store_at p k) (Data c)) (store_at p k (Data c)) (λ e lt. inl (sym (same e)))
+value_like p m w r k c same = folded_same (elements p.program k) (λ e. m (End k r e)) (λ e. w (End k r e))
+    (λ e. effect p k e (store_at p k) (Data c)) (store_at p k (Data c)) (λ e lt. inl (sym (same e)))
 
 -- what touches neither rank r's memory nor its frames of item k
 pub says_other : {F : Type 0} (p : Setup F) (m w : Step → Bool) (a b : State F) (r k : ℕ)
     → ((s : ℕ) → w (Recv k r s) ≡ true → m (Recv k r s) ≡ true) → ((e : ℕ) → w (Begin k r e) ≡ m (Begin k r e)) → ((j e : ℕ) → w (End j r e) ≡ m (End j r e))
-    → b.output ≡ a.output → ((c : DatCell) → b.memories r c ≡ a.memories r c) → ((v : VarCell) → b.variables v ≡ a.variables v) → ((s : ℕ) (v : VarCell) → b.partials r s v ≡ a.partials r s v) → ((e : ℕ) → b.frames k r e ≡ a.frames k r e)
+    → b.output ≡ a.output → ((c : DatCell) → b.memories r c ≡ a.memories r c) → ((v : VarCell) → b.variables v ≡ a.variables v)
+        → ((s : ℕ) (v : VarCell) → b.partials r s v ≡ a.partials r s v) → ((e : ℕ) → b.frames k r e ≡ a.frames k r e)
     → Says p m a r k → Says p w b r k
 says_other p m w a b r k recv begin end out mem vars part frame h = record {
   told = out ∙ h.told;
@@ -161,12 +172,16 @@ module _ {F : Type 0} (p : Setup F) (q : Law p) (m : Step → Bool) (st : State 
   fresh_before k c fr lt h all (own o) = (
     own o,
     λ e le. ⊎_elim
-        (λ (w : is_modified (p.touch k e (Data c)) ≡ true). inl (all (End k r e) (lt, ap is_free fr, inside, and_from (nat_lt e (elements p.program k)) (executes p k r e) (lt-ltb e (elements p.program k) le) (subst (λ x. executes p k x e ≡ true) o (q.lawful.covers k e c fr le w))) refl refl))
+        (λ (w : is_modified (p.touch k e (Data c)) ≡ true). inl
+            (all (End k r e) (lt, ap is_free fr, inside, and_from (nat_lt e (elements p.program k)) (executes p k r e)
+            (lt-ltb e (elements p.program k) le) (subst (λ x. executes p k x e ≡ true) o (q.lawful.covers k e c fr le w))) refl refl))
         (λ w. inr w) (cases_Bool (is_modified (p.touch k e (Data c)))),
   )
   fresh_before k c fr lt h all (clean i s) =
       let parts : (p.modifies k c.dat ≡ false) × ((stale p k c.dat && not (p.needs k c.dat)) ≡ false) = or_parts (p.modifies k c.dat) (stale p k c.dat && not (p.needs k c.dat)) s in
-      let idle : (e : ℕ) → e < elements p.program k → (m (End k r e) ≡ true) ⊎ (is_modified (p.touch k e (Data c)) ≡ false) = λ e le. inr (false_from_ne_true (is_modified (p.touch k e (Data c))) (λ w. false≢true (sym parts.0 ∙ q.lawful.modified k e c fr le w))) in
+      let idle : (e : ℕ) → e < elements p.program k → (m (End k r e) ≡ true) ⊎ (is_modified (p.touch k e (Data c)) ≡ false) =
+          λ e le. inr (false_from_ne_true (is_modified (p.touch k e (Data c)))
+          (λ w. false≢true (sym parts.0 ∙ q.lawful.modified k e c fr le w))) in
       ⊎_elim
       (λ (y : stale p k c.dat ≡ true).
       ⊎_elim
@@ -203,7 +218,8 @@ module _ {F : Type 0} (p : Setup F) (q : Law p) (m : Step → Bool) (st : State 
       by_op (Some o) e = absurd (false≢true (sym n ∙ ap is_reduce (q.lawful.items.reduce_next k v o fr e)))
 
   -- the effects on such a variable
-  no_effects : (k : ℕ) → p.program.kind k ≡ Free → is_reduce (p.program.kind (suc k)) ≡ false → (v : VarCell) (w : ℕ → Bool) (x : ℤ) → folded (elements p.program k) w (λ e. effect p k e (store_at p k) (Variable v)) x ≡ x
+  no_effects : (k : ℕ) → p.program.kind k ≡ Free → is_reduce (p.program.kind (suc k)) ≡ false → (v : VarCell) (w : ℕ → Bool) (x : ℤ)
+      → folded (elements p.program k) w (λ e. effect p k e (store_at p k) (Variable v)) x ≡ x
   no_effects k fr n v w x = folded_none (elements p.program k) w (λ e. effect p k e (store_at p k) (Variable v)) x
       (λ e le. inr (λ y. keeps p q k e (store_at p k) (Variable v) y (unreduced p q k e v fr le (not_reducing k fr n v))))
 

@@ -36,7 +36,8 @@ folded_same (suc n) m w f v h =
     (h n (omega arith))
 
 -- one more mark is one more effect
-pub folded_mark : (N n : ℕ) (m w : ℕ → Bool) (f : ℕ → ℤ → ℤ) (v : ℤ) (e : ℕ) → n ≤ N → Commute N f → e < n → m e ≡ false → w e ≡ true → ((a : ℕ) → (a ≡ e → ⊥) → w a ≡ m a) → folded n w f v ≡ f e (folded n m f v)
+pub folded_mark : (N n : ℕ) (m w : ℕ → Bool) (f : ℕ → ℤ → ℤ) (v : ℤ) (e : ℕ) → n ≤ N → Commute N f → e < n → m e ≡ false → w e ≡ true
+    → ((a : ℕ) → (a ≡ e → ⊥) → w a ≡ m a) → folded n w f v ≡ f e (folded n m f v)
 folded_mark N zero m w f v e le comm lt me we other = absurd (omega arith)
 folded_mark N (suc n) m w f v e le comm lt me we other =
     ⊎_elim

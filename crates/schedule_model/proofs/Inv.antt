@@ -19,7 +19,8 @@ use Rattle.schedule_model.proofs.Facts.{says_other, At, stand_at}
 
 -- the fault is that of an element of a Free item
 abbrev pub Recorded : {F : Type 0} → Setup F → Stop F → Type 0
-Recorded p x = is_going (seq p.program x.item) ≡ true → (e : ℕ) × (x.element ≡ Some e) × (e < elements p.program x.item) × (fault p x.item e (store_at p x.item) ≡ Some x.fault) × (p.program.kind x.item ≡ Free)
+Recorded p x = is_going (seq p.program x.item) ≡ true → (e : ℕ) × (x.element ≡ Some e) × (e < elements p.program x.item)
+    × (fault p x.item e (store_at p x.item) ≡ Some x.fault) × (p.program.kind x.item ≡ Free)
 
 -- the message holds its sender's cells as they were before its item
 abbrev pub Letter : {F : Type 0} → Setup F → ℕ → Message → Type 0
@@ -48,11 +49,13 @@ pub record Inv {F : Type 0} (p : Setup F) (m : Step → Bool) (st : State F) : T
   pub queues : (s r : ℕ) → abouts (st.mail s r) ≡ pending (waiting m s r) p.program.items
   pub letters : (s r : ℕ) → Letters p s (st.mail s r)
   pub recorded : Each (Recorded p) st.faults
-  pub kept : (k r e : ℕ) (f : F) → m (Begin k r e) ≡ true → is_going (seq p.program k) ≡ true → fault p k e (store_at p k) ≡ Some f → Member (record { item = k; element = Some e; fault = f }) st.faults
+  pub kept : (k r e : ℕ) (f : F) → m (Begin k r e) ≡ true → is_going (seq p.program k) ≡ true → fault p k e (store_at p k) ≡ Some f
+      → Member (record { item = k; element = Some e; fault = f }) st.faults
   pub went : (j : ℕ) → m (Join j) ≡ true → is_going (seq p.program (suc j)) ≡ true
   pub ranks : (r : ℕ) → r < p.ranks → (k : ℕ) × At p m st r k
 
-pub at_item : {F : Type 0} (p : Setup F) (q : Law p) (m : Step → Bool) (st : State F) → Inv p m st → (s : Step) → Ready (outline p) m s → item s ≤ p.program.items → (r : ℕ) → IsOf s r → r < p.ranks → At p m st r (item s)
+pub at_item : {F : Type 0} (p : Setup F) (q : Law p) (m : Step → Bool) (st : State F) → Inv p m st → (s : Step) → Ready (outline p) m s
+    → item s ≤ p.program.items → (r : ℕ) → IsOf s r → r < p.ranks → At p m st r (item s)
 at_item p q m st inv s rd le r of lt =
     let h : (k : ℕ) × At p m st r k = inv.ranks r lt in
     stand_at p q m st r lt inv.right (item s) h.0 h.1 le
@@ -66,13 +69,17 @@ pub put_other : (r x : ℕ) (v : DatCell → ℤ) (f : ℕ → DatCell → ℤ) 
 put_other r x v f c ne = ap (λ g. g c) (cond-false (x == r) v (f x) (ne_eqb x r ne))
 
 -- the ranks that don't take the step
-pub at_other : {F : Type 0} (p : Setup F) (m : Step → Bool) (a b : State F) (s : Step) (x : ℕ) → (IsOf s x → ⊥) → b.output ≡ a.output → ((c : DatCell) → b.memories x c ≡ a.memories x c) → b.variables ≡ a.variables → ((i : ℕ) (v : VarCell) → b.partials x i v ≡ a.partials x i v) → ((k e : ℕ) → b.frames k x e ≡ a.frames k x e) → ((k : ℕ) × At p m a x k) → (k : ℕ) × At p (mark s m) b x k
+pub at_other : {F : Type 0} (p : Setup F) (m : Step → Bool) (a b : State F) (s : Step) (x : ℕ) → (IsOf s x → ⊥) → b.output ≡ a.output
+    → ((c : DatCell) → b.memories x c ≡ a.memories x c) → b.variables ≡ a.variables
+    → ((i : ℕ) (v : VarCell) → b.partials x i v ≡ a.partials x i v) → ((k e : ℕ) → b.frames k x e ≡ a.frames k x e)
+    → ((k : ℕ) × At p m a x k) → (k : ℕ) × At p (mark s m) b x k
 at_other p m a b s x ne out mem vars part frame h =
     let same_mark = λ (t : Step) (of : IsOf t x). mark_else s m t (λ e. ne (subst (λ u. IsOf u x) e of)) in (
       h.0,
       record {
         stands = stands_other (outline p) m (mark s m) x h.0 same_mark h.1.stands;
-        says = says_other p m (mark s m) a b x h.0 (λ y e. sym (same_mark (Recv h.0 x y) refl) ∙ e) (λ e. same_mark (Begin h.0 x e) refl) (λ j e. same_mark (End j x e) refl) out mem (λ v. ap (λ f. f v) vars) part (frame h.0) h.1.says;
+        says = says_other p m (mark s m) a b x h.0 (λ y e. sym (same_mark (Recv h.0 x y) refl) ∙ e) (λ e. same_mark (Begin h.0 x e) refl)
+            (λ j e. same_mark (End j x e) refl) out mem (λ v. ap (λ f. f v) vars) part (frame h.0) h.1.says;
       },
     )
 

@@ -27,7 +27,9 @@ pub record Law {F : Type 0} (p : Setup F) : Type 0 where
   pub reductions : Reductions
 
 module _ {F : Type 0} (p : Setup F) (q : Law p) where
-  pub runs : (k e : ℕ) (w s : Store) → p.program.kind k ≡ Free → e < elements p.program k → InRange w → InRange s → ((c : Cell) → is_read (p.touch k e c) ≡ true → s c ≡ w c) → p.program.run k e s ≡ outcome (fault p k e w) (λ c. effect p k e w c (s c))
+  pub runs : (k e : ℕ) (w s : Store) → p.program.kind k ≡ Free → e < elements p.program k → InRange w → InRange s
+      → ((c : Cell) → is_read (p.touch k e c) ≡ true → s c ≡ w c)
+      → p.program.run k e s ≡ outcome (fault p k e w) (λ c. effect p k e w c (s c))
   unfolding fault effect
   runs k e w s fr lt gw gs agree = gives q.reductions (p.program.run k e) (p.touch k e) (q.lawful.kernels.independent k e fr lt) w s gw gs agree
 
@@ -49,7 +51,9 @@ module _ {F : Type 0} (p : Setup F) (q : Law p) where
   shared k a b (Variable v) fr la lb ne h = by_op (p.reduces (p.program.site k) v) (q.lawful.reaches k a v fr la) (q.lawful.reaches k b v fr lb)
     where
       by_op : (o : Option Reduction) → Reaches o (p.touch k a (Variable v)) → Reaches o (p.touch k b (Variable v))
-          → (is_read (p.touch k b (Variable v)) ≡ false) × ((is_modified (p.touch k b (Variable v)) ≡ false) ⊎ ((o : Reduction) × (p.touch k a (Variable v) ≡ Merged o) × (p.touch k b (Variable v) ≡ Merged o)))
+          → (is_read (p.touch k b (Variable v)) ≡ false) ×
+              ((is_modified (p.touch k b (Variable v)) ≡ false) ⊎
+              ((o : Reduction) × (p.touch k a (Variable v) ≡ Merged o) × (p.touch k b (Variable v) ≡ Merged o)))
       by_op None x y = absurd (false≢true (sym x ∙ h))
       by_op (Some o) x y = (ap is_read y, inr (o, x, y))
 
@@ -90,7 +94,9 @@ module _ {F : Type 0} (p : Setup F) (q : Law p) where
   pub unreduced : (k e : ℕ) (v : VarCell) → p.program.kind k ≡ Free → e < elements p.program k → p.reduces (p.program.site k) v ≡ None → is_modified (p.touch k e (Variable v)) ≡ false
   unreduced k e v fr lt h = subst (λ o. Reaches o (p.touch k e (Variable v))) h (q.lawful.reaches k e v fr lt)
 
-  pub merge_amount : (k e : ℕ) (w : Store) (v : VarCell) (y x : ℤ) → p.program.kind k ≡ Free → e < elements p.program k → merge_at (p.reduces (p.program.site k) v) y (effect p k e w (Variable v) x) ≡ effect p k e w (Variable v) (merge_at (p.reduces (p.program.site k) v) y x)
+  pub merge_amount : (k e : ℕ) (w : Store) (v : VarCell) (y x : ℤ) → p.program.kind k ≡ Free → e < elements p.program k
+      → merge_at (p.reduces (p.program.site k) v) y (effect p k e w (Variable v) x) ≡ effect p k e w (Variable v)
+      (merge_at (p.reduces (p.program.site k) v) y x)
   unfolding effect
   merge_amount k e w v y x fr lt = by_op (p.reduces (p.program.site k) v) (q.lawful.reaches k e v fr lt)
     where
@@ -109,4 +115,6 @@ module _ {F : Type 0} (p : Setup F) (q : Law p) where
   last n e = false_from_ne_true (is_free (p.program.kind n)) (λ t. q.lawful.items.last_item n e (free_kind (p.program.kind n) t))
 
   pub owner_below : (c : DatCell) → owner_of p c < p.ranks
-  owner_below c = cond_both (in_set p c) (p.owner (p.program.set_of c.dat) c.element) 0 (λ x. x < p.ranks) (λ t. q.lawful.items.owners (p.program.set_of c.dat) c.element (ltb-true c.element (p.program.size (p.program.set_of c.dat)) t)) (λ t. q.lawful.items.some_rank)
+  owner_below c = cond_both (in_set p c) (p.owner (p.program.set_of c.dat) c.element) 0 (λ x. x < p.ranks)
+      (λ t. q.lawful.items.owners (p.program.set_of c.dat) c.element (ltb-true c.element (p.program.size (p.program.set_of c.dat)) t))
+      (λ t. q.lawful.items.some_rank)

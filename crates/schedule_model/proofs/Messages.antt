@@ -23,7 +23,8 @@ use Rattle.schedule_model.specs.Tests.{free_kind}
 
 -- the element is of the set, where the rank runs it
 pub run_below : {F : Type 0} (p : Setup F) (k r e : ℕ) → (nat_lt e (elements p.program k) && executes p k r e) ≡ true → (e < elements p.program k) × (executes p k r e ≡ true)
-run_below p k r e h = let x : (nat_lt e (elements p.program k) ≡ true) × (executes p k r e ≡ true) = and_parts (nat_lt e (elements p.program k)) (executes p k r e) h in (ltb-true e (elements p.program k) x.0, x.1)
+run_below p k r e h = let x : (nat_lt e (elements p.program k) ≡ true) × (executes p k r e ≡ true) =
+    and_parts (nat_lt e (elements p.program k)) (executes p k r e) h in (ltb-true e (elements p.program k) x.0, x.1)
 
 module _ {F : Type 0} (p : Setup F) (q : Law p) (m : Step → Bool) (st : State F) (inv : Inv p m st) where
   -- an element that ended had begun
@@ -37,7 +38,8 @@ module _ {F : Type 0} (p : Setup F) (q : Law p) (m : Step → Bool) (st : State 
       ∙ folded_none (elements p.program k) (λ e. m (End k s e)) (λ e. effect p k e (store_at p k) (Data c)) (store_at p k (Data c))
       (λ e le. inl (false_from_ne_true (m (End k s e)) (λ t. false≢true (sym rd.untaken ∙ inv.right.closed (Begin k s e) (Send k s r) (end_begun k s e t) rd.planned sent_first))))
 
-  send_pending : (k s r : ℕ) → Ready (outline p) m (Send k s r) → Stands (outline p) m s k → pending (waiting (mark (Send k s r) m) s r) p.program.items ≡ pending (waiting m s r) p.program.items ++ (k ∷ [])
+  send_pending : (k s r : ℕ) → Ready (outline p) m (Send k s r) → Stands (outline p) m s k
+      → pending (waiting (mark (Send k s r) m) s r) p.program.items ≡ pending (waiting m s r) p.program.items ++ (k ∷ [])
   send_pending k s r rd h =
       let plan : IsStep (outline p) (Send k s r) = rd.planned in
       pending_push (waiting m s r) (waiting (mark (Send k s r) m) s r) k p.program.items plan.0
@@ -55,7 +57,8 @@ module _ {F : Type 0} (p : Setup F) (q : Law p) (m : Step → Bool) (st : State 
       (and_right (m (Send k s r)) (not (mark (Recv k r s) m (Recv k r s))) (not_from_true (mark (Recv k r s) m (Recv k r s)) (mark_self (Recv k r s) m)))
       (λ j ne. ap (λ b. m (Send j s r) && not b) (mark_else (Recv k r s) m (Recv j r s) (λ i. ne (let e : item (Recv j r s) ≡ k = ap item i in e))))
       (λ j lt. ⊎_elim
-      (λ (t : m (Send j s r) ≡ true). and_right (m (Send j s r)) (not (m (Recv j r s))) (not_from_true (m (Recv j r s)) (rd.after (Recv j r s) (inv.right.sound (Send j s r) t) (by_item r refl refl lt))))
+      (λ (t : m (Send j s r) ≡ true). and_right (m (Send j s r)) (not (m (Recv j r s)))
+          (not_from_true (m (Recv j r s)) (rd.after (Recv j r s) (inv.right.sound (Send j s r) t) (by_item r refl refl lt))))
       (λ (t : m (Send j s r) ≡ false). and_left (m (Send j s r)) (not (m (Recv j r s))) t)
       (cases_Bool (m (Send j s r))))
 
@@ -111,7 +114,9 @@ module _ {F : Type 0} (p : Setup F) (q : Law p) (m : Step → Bool) (st : State 
   -- a rank that waits for a message has run core elements alone
   waits : (k r s : ℕ) → Ready (outline p) m (Recv k r s) → (e : ℕ) (c : DatCell) → m (Begin k r e) ≡ true → has_copy p r c ≡ true → is_modified (p.touch k e (Data c)) ≡ false
   waits k r s rd e c t copy = false_from_ne_true (is_modified (p.touch k e (Data c))) (λ w.
-      let core : p.core r (p.program.set k) e ≡ true = ⊎_elim (λ z. z) (λ z. absurd (false≢true (sym rd.untaken ∙ inv.right.closed (Begin k r e) (Recv k r s) t rd.planned (received z)))) (cases_Bool (p.core r (p.program.set k) e)) in
+      let core : p.core r (p.program.set k) e ≡ true = ⊎_elim (λ z. z)
+          (λ z. absurd (false≢true (sym rd.untaken ∙ inv.right.closed (Begin k r e) (Recv k r s) t rd.planned (received z))))
+          (cases_Bool (p.core r (p.program.set k) e)) in
       let plan : IsStep (outline p) (Begin k r e) = inv.right.sound (Begin k r e) t in
       let run : (e < elements p.program k) × (executes p k r e ≡ true) = run_below p k r e plan.3 in
       q.lawful.imports_other r c plan.2 copy (q.lawful.core_modifies k r e c (free_kind (p.program.kind k) plan.1) plan.2 run.0 run.1 core w))
@@ -212,11 +217,14 @@ module _ {F : Type 0} (p : Setup F) (q : Law p) (m : Step → Bool) (st : State 
               (cases_eq y r);
         }
 
-  keeps_queue : (k r s : ℕ) → Ready (outline p) m (Recv k r s) → At p m st r k → (xs : List Message) → st.mail s r ≡ xs → Letters p s xs → abouts xs ≡ k ∷ pending (waiting (mark (Recv k r s) m) s r) p.program.items → Sane (taken p r s xs st) → Inv p (mark (Recv k r s) m) (taken p r s xs st)
+  keeps_queue : (k r s : ℕ) → Ready (outline p) m (Recv k r s) → At p m st r k → (xs : List Message) → st.mail s r ≡ xs → Letters p s xs
+      → abouts xs ≡ k ∷ pending (waiting (mark (Recv k r s) m) s r) p.program.items → Sane (taken p r s xs st)
+      → Inv p (mark (Recv k r s) m) (taken p r s xs st)
   keeps_queue k r s rd here [] mail right first sane = cc
   keeps_queue k r s rd here (x ∷ xs) mail right first sane =
       let about : x.about ≡ k = cc in
-      subst (λ i. Inv p (mark (Recv k r s) m) (delivered p i r s x xs st)) (sym about) (keeps_message k r s rd x right.0 about here xs mail right.1 (subst (λ i. Sane (delivered p i r s x xs st)) about sane))
+      subst (λ i. Inv p (mark (Recv k r s) m) (delivered p i r s x xs st)) (sym about)
+          (keeps_message k r s rd x right.0 about here xs mail right.1 (subst (λ i. Sane (delivered p i r s x xs st)) about sane))
 
   pub keeps_recv : (k r s : ℕ) → Ready (outline p) m (Recv k r s) → Inv p (mark (Recv k r s) m) (step p (Recv k r s) st)
   keeps_recv k r s rd =

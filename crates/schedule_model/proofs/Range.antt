@@ -60,7 +60,8 @@ module _ {F : Type 0} (p : Setup F) (q : Law p) (st : State F) (h : Sane st) whe
   good_taken : (r s : ℕ) (xs : List Message) → GoodMail xs → Sane (taken p r s xs st)
   good_taken r s [] g = h
   good_taken r s (x ∷ xs) g = record {
-    cells = good_rank r (λ c. cond (arrives p x.about r s c) (x.values c) (st.memories r c)) st.memories (λ c. good_cond (arrives p x.about r s c) (x.values c) (st.memories r c) (g.0 c) (h.cells r c)) h.cells;
+    cells = good_rank r (λ c. cond (arrives p x.about r s c) (x.values c) (st.memories r c)) st.memories
+        (λ c. good_cond (arrives p x.about r s c) (x.values c) (st.memories r c) (g.0 c) (h.cells r c)) h.cells;
     variables = h.variables;
     parts = h.parts;
     post = λ a b. cond_both ((a == s) && (b == r)) xs (st.mail a b) GoodMail (λ t. g.1) (λ t. h.post a b);
@@ -84,10 +85,13 @@ module _ {F : Type 0} (p : Setup F) (q : Law p) (st : State F) (h : Sane st) whe
   good_closed k r e Shut g = good_shut k r e
   good_closed k r e Broken g = good_shut k r e
   good_closed k r e (Holds t) g = record {
-    cells = good_rank r (λ c. cond (is_modified (p.touch k e (Data c))) (t (Data c)) (st.memories r c)) st.memories (λ c. good_cond (is_modified (p.touch k e (Data c))) (t (Data c)) (st.memories r c) (g (Data c)) (h.cells r c)) h.cells;
+    cells = good_rank r (λ c. cond (is_modified (p.touch k e (Data c))) (t (Data c)) (st.memories r c)) st.memories
+        (λ c. good_cond (is_modified (p.touch k e (Data c))) (t (Data c)) (st.memories r c) (g (Data c)) (h.cells r c)) h.cells;
     variables = h.variables;
     parts = λ a b v. cond_both ((a == r) && (b == p.program.site k))
-        (λ v. cond (p.owner (p.program.set k) e == r) (merge_at (p.reduces (p.program.site k) v) (st.partials r (p.program.site k) v) (t (Variable v))) (st.partials r (p.program.site k) v)) (st.partials a b) (λ f. Good (f v))
+        (λ v. cond (p.owner (p.program.set k) e == r)
+            (merge_at (p.reduces (p.program.site k) v) (st.partials r (p.program.site k) v) (t (Variable v)))
+            (st.partials r (p.program.site k) v)) (st.partials a b) (λ f. Good (f v))
         (λ i. good_cond (p.owner (p.program.set k) e == r) (merge_at (p.reduces (p.program.site k) v) (st.partials r (p.program.site k) v) (t (Variable v))) (st.partials r (p.program.site k) v)
         (good_merge p q (p.reduces (p.program.site k) v) (st.partials r (p.program.site k) v) (t (Variable v)) (h.parts r (p.program.site k) v) (g (Variable v))) (h.parts r (p.program.site k) v))
         (λ i. h.parts a b v);
@@ -113,8 +117,12 @@ module _ {F : Type 0} (p : Setup F) (q : Law p) (st : State F) (h : Sane st) whe
   good_gathered (Variable v) = h.variables v
 
   pub good_looped : (k : ℕ) (x : Loop F) → GoodLoop x → Sane (looped p k x st)
-  good_looped k (Broke e f t) g = record { cells = λ r c. good_cond (owner_of p c == r) (t (Data c)) (st.memories r c) (g (Data c)) (h.cells r c); variables = λ v. g (Variable v); parts = h.parts; post = h.post; frames = h.frames }
-  good_looped k (Ran_through t) g = record { cells = λ r c. good_cond (owner_of p c == r) (t (Data c)) (st.memories r c) (g (Data c)) (h.cells r c); variables = λ v. g (Variable v); parts = h.parts; post = h.post; frames = h.frames }
+  good_looped k (Broke e f t) g = record
+      { cells = λ r c. good_cond (owner_of p c == r) (t (Data c)) (st.memories r c) (g (Data c)) (h.cells r c); variables =
+      λ v. g (Variable v); parts = h.parts; post = h.post; frames = h.frames }
+  good_looped k (Ran_through t) g = record
+      { cells = λ r c. good_cond (owner_of p c == r) (t (Data c)) (st.memories r c) (g (Data c)) (h.cells r c); variables =
+      λ v. g (Variable v); parts = h.parts; post = h.post; frames = h.frames }
 
   pub good_hosted : (k : ℕ) (x : Hosted F) → p.program.host k (gathered p st) ≡ x → Sane (hosted k x st)
   good_hosted k (Halts f) i = record { cells = h.cells; variables = h.variables; parts = h.parts; post = h.post; frames = h.frames }
@@ -140,9 +148,12 @@ module _ {F : Type 0} (p : Setup F) (q : Law p) (st : State F) (h : Sane st) whe
         (λ t. good_push (st.mail s r) (record { about = k; values = st.memories s }) (h.post s r) (h.cells s)) (λ t. h.post a b);
   }
   sane_step (Recv k r s) plan = good_taken r s (st.mail s r) (h.post s r)
-  sane_step (Begin k r e) plan = good_opened k r e (p.program.run k e (view p k r st)) (ap is_loop (free_kind (p.program.kind k) plan.1)) (ltb-true e (elements p.program k) (and_parts (nat_lt e (elements p.program k)) (executes p k r e) plan.3).0) refl
+  sane_step (Begin k r e) plan = good_opened k r e (p.program.run k e (view p k r st)) (ap is_loop (free_kind (p.program.kind k) plan.1))
+      (ltb-true e (elements p.program k) (and_parts (nat_lt e (elements p.program k)) (executes p k r e) plan.3).0) refl
   sane_step (End k r e) plan = good_closed k r e (st.frames k r e) (h.frames k r e)
   sane_step (Join k) plan = good_joined k (least k st.faults)
 
 pub sane_start : {F : Type 0} (p : Setup F) (q : Law p) → Sane (start_state p)
-sane_start p q = record { cells = λ r c. q.lawful.kernels.start_in_range (Data c); variables = λ v. q.lawful.kernels.start_in_range (Variable v); parts = λ r s v. good_unit p q (p.reduces s v); post = λ s r. tt; frames = λ k r e. tt }
+sane_start p q = record { cells = λ r c. q.lawful.kernels.start_in_range (Data c); variables =
+    λ v. q.lawful.kernels.start_in_range (Variable v); parts = λ r s v. good_unit p q (p.reduces s v); post = λ s r. tt; frames =
+    λ k r e. tt }

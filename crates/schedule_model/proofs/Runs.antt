@@ -32,7 +32,8 @@ at_unit_fits laws Written v h = h
 at_unit_fits laws (Merged o) v h = (laws o).unit_fits
 at_unit_fits laws Mixed v h = h
 
-module _ (laws : Reductions) {F : Type 0} (run : Store → Ran F) (touch : Cell → Touch) (indep : Independent run touch) (w s : Store) (good_w : InRange w) (good_s : InRange s) (agree : (c : Cell) → is_read (touch c) ≡ true → s c ≡ w c) where
+module _ (laws : Reductions) {F : Type 0} (run : Store → Ran F) (touch : Cell → Touch) (indep : Independent run touch) (w s : Store)
+    (good_w : InRange w) (good_s : InRange s) (agree : (c : Cell) → is_read (touch c) ≡ true → s c ≡ w c) where
   base : Store
   base = with_units touch w
 
@@ -63,7 +64,8 @@ module _ (laws : Reductions) {F : Type 0} (run : Store → Ran F) (touch : Cell 
       agrees x h = agree_base x h ∙ sym (with_cell_other c (s c) (with_units touch w) x (λ i. false≢true (ap is_read (sym (ap touch i ∙ k)) ∙ h)))
 
       both : Alike touch s (with_cell c (s c) (with_units touch w)) (Finished t) (run (with_cell c (s c) (with_units touch w)))
-      both = subst (λ z. Alike touch s (with_cell c (s c) (with_units touch w)) z (run (with_cell c (s c) (with_units touch w)))) e (indep s (with_cell c (s c) (with_units touch w)) good_s good agrees)
+      both = subst (λ z. Alike touch s (with_cell c (s c) (with_units touch w)) z (run (with_cell c (s c) (with_units touch w)))) e
+          (indep s (with_cell c (s c) (with_units touch w)) good_s good agrees)
 
       at : (y : Ran F) → run (with_cell c (s c) (with_units touch w)) ≡ y → t c ≡ left_by (run (with_cell c (s c) (with_units touch w))) w c
       at (Faulted g) i = absurd (subst (Alike touch s (with_cell c (s c) (with_units touch w)) (Finished t)) i both)
@@ -72,7 +74,8 @@ module _ (laws : Reductions) {F : Type 0} (run : Store → Ran F) (touch : Cell 
           let x : CellAlike Mixed (s c) (t c) (with_cell c (s c) (with_units touch w) c) (u c) = subst (λ z. CellAlike z (s c) (t c) (with_cell c (s c) (with_units touch w) c) (u c)) k (a c) in
           x (sym (with_cell_here c (s c) (with_units touch w))) ∙ ap (λ z. left_by z w c) (sym i)
 
-  made : (t u : Store) (c : Cell) → run s ≡ Finished t → run (with_units touch w) ≡ Finished u → (k : Touch) → touch c ≡ k → CellAlike k (s c) (t c) (at_unit k (w c)) (u c) → t c ≡ made_of run touch w c k (s c)
+  made : (t u : Store) (c : Cell) → run s ≡ Finished t → run (with_units touch w) ≡ Finished u → (k : Touch) → touch c ≡ k
+      → CellAlike k (s c) (t c) (at_unit k (w c)) (u c) → t c ≡ made_of run touch w c k (s c)
   unfolding base
   made t u c e i Untouched k h = h.0
   made t u c e i Read k h = h.0
@@ -87,7 +90,8 @@ module _ (laws : Reductions) {F : Type 0} (run : Store → Ran F) (touch : Cell 
   result (Faulted f) (Finished u) e i h = absurd h
   result (Finished t) (Faulted g) e i h = absurd h
   result (Finished t) (Finished u) e i h =
-      ap Finished (λ j c. (let x : t c ≡ effect_of run touch w c (s c) = made t u c e i (touch c) refl (h c) ∙ ap (λ z. unless_faulty (fault_of z) (s c) (made_of run touch w c (touch c) (s c))) (sym i) in x) j)
+      ap Finished (λ j c. (let x : t c ≡ effect_of run touch w c (s c) = made t u c e i (touch c) refl (h c)
+          ∙ ap (λ z. unless_faulty (fault_of z) (s c) (made_of run touch w c (touch c) (s c))) (sym i) in x) j)
       ∙ ap (λ z. outcome (fault_of z) (λ c. effect_of run touch w c (s c))) (sym i)
 
   gives_at : run s ≡ outcome (fault_of (run (with_units touch w))) (λ c. effect_of run touch w c (s c))
@@ -134,7 +138,8 @@ module _ (laws : Reductions) where
   later None o y x a = sym ((laws o).associates y x a)
   later (Some f) o y x a = refl
 
-  pub merge_through : {F : Type 0} (run : Store → Ran F) (touch : Cell → Touch) (w : Store) (c : Cell) (o : Reduction) (y x : ℤ) → touch c ≡ Merged o → merged o y (effect_of run touch w c x) ≡ effect_of run touch w c (merged o y x)
+  pub merge_through : {F : Type 0} (run : Store → Ran F) (touch : Cell → Touch) (w : Store) (c : Cell) (o : Reduction) (y x : ℤ)
+      → touch c ≡ Merged o → merged o y (effect_of run touch w c x) ≡ effect_of run touch w c (merged o y x)
   merge_through run touch w c o y x h =
       ap (merged o y) (effect_merges run touch w c o x h)
       ∙ (later (fault_of (run (with_units touch w))) o y x (amount_of run touch w c)
@@ -144,14 +149,16 @@ module _ (laws : Reductions) where
   swapped o v a b = (laws o).associates v b a ∙ (ap (merged o v) ((laws o).commutes b a) ∙ sym ((laws o).associates v a b))
 
   either : {F G : Type 0} (f : Option F) (g : Option G) (o : Reduction) (v a b : ℤ)
-      → unless_faulty f (unless_faulty g v (merged o v b)) (merged o (unless_faulty g v (merged o v b)) a) ≡ unless_faulty g (unless_faulty f v (merged o v a)) (merged o (unless_faulty f v (merged o v a)) b)
+      → unless_faulty f (unless_faulty g v (merged o v b)) (merged o (unless_faulty g v (merged o v b)) a) ≡ unless_faulty g
+          (unless_faulty f v (merged o v a)) (merged o (unless_faulty f v (merged o v a)) b)
   either None None o v a b = swapped o v a b
   either None (Some g) o v a b = refl
   either (Some f) None o v a b = refl
   either (Some f) (Some g) o v a b = refl
 
   -- two elements that merge by one operation commute
-  pub merges_commute : {F G : Type 0} (run : Store → Ran F) (touch : Cell → Touch) (ron : Store → Ran G) (klass : Cell → Touch) (w : Store) (c : Cell) (o : Reduction) (v : ℤ) → touch c ≡ Merged o → klass c ≡ Merged o
+  pub merges_commute : {F G : Type 0} (run : Store → Ran F) (touch : Cell → Touch) (ron : Store → Ran G) (klass : Cell → Touch) (w : Store)
+      (c : Cell) (o : Reduction) (v : ℤ) → touch c ≡ Merged o → klass c ≡ Merged o
       → effect_of run touch w c (effect_of ron klass w c v) ≡ effect_of ron klass w c (effect_of run touch w c v)
   merges_commute run touch ron klass w c o v h i =
       effect_merges run touch w c o (effect_of ron klass w c v) h

@@ -89,16 +89,20 @@ module _ {F : Type 0} (p : Setup F) (q : Law p) where
       at (Going s o) g h = h
 
   -- ---- a Free loop by effects
-  ran_more : (k : ℕ) (w t : Store) (n : ℕ) → ((e : ℕ) → e < n → fault p k e w ≡ None) → ((c : Cell) → t c ≡ folded n (λ e. true) (λ e. effect p k e w c) (w c)) → (b : Option F) → fault p k n w ≡ b → LoopIs p k w (suc n) (after_run n t (outcome b (λ c. effect p k n w c (t c))))
+  ran_more : (k : ℕ) (w t : Store) (n : ℕ) → ((e : ℕ) → e < n → fault p k e w ≡ None)
+      → ((c : Cell) → t c ≡ folded n (λ e. true) (λ e. effect p k e w c) (w c)) → (b : Option F) → fault p k n w ≡ b
+      → LoopIs p k w (suc n) (after_run n t (outcome b (λ c. effect p k n w c (t c))))
   ran_more k w t n none folds None e = (below_suc {P = λ a. fault p k a w ≡ None} n none e, λ c. ap (effect p k n w c) (folds c))
   ran_more k w t n none folds (Some f) e = (omega arith, e, none)
 
-  agrees : (k : ℕ) (w t : Store) (n : ℕ) → p.program.kind k ≡ Free → n < elements p.program k → ((c : Cell) → t c ≡ folded n (λ e. true) (λ e. effect p k e w c) (w c)) → (c : Cell) → is_read (p.touch k n c) ≡ true → t c ≡ w c
+  agrees : (k : ℕ) (w t : Store) (n : ℕ) → p.program.kind k ≡ Free → n < elements p.program k
+      → ((c : Cell) → t c ≡ folded n (λ e. true) (λ e. effect p k e w c) (w c)) → (c : Cell) → is_read (p.touch k n c) ≡ true → t c ≡ w c
   agrees k w t n fr lt folds c r =
       folds c ∙ folded_none n (λ e. true) (λ e. effect p k e w c) (w c)
       (λ e le. inr (λ x. keeps p q k e w c x (false_from_ne_true (is_modified (p.touch k e c)) (λ y. let i : e ≡ n = apart p q k n e c fr lt (omega arith) r y in omega arith))))
 
-  loop_more : (k : ℕ) (w : Store) (n : ℕ) (r : Loop F) → p.program.kind k ≡ Free → n < elements p.program k → InRange w → GoodLoop r → LoopIs p k w n r → LoopIs p k w (suc n) (one_more p.program k n r)
+  loop_more : (k : ℕ) (w : Store) (n : ℕ) (r : Loop F) → p.program.kind k ≡ Free → n < elements p.program k → InRange w → GoodLoop r
+      → LoopIs p k w n r → LoopIs p k w (suc n) (one_more p.program k n r)
   loop_more k w n (Broke e f s) fr lt gw g h = (let l : e < n = h.0 in omega arith, h.1, h.2)
   loop_more k w n (Ran_through t) fr lt gw g h =
       subst (λ x. LoopIs p k w (suc n) (after_run n t x)) (sym (runs p q k n w t fr lt gw g (agrees k w t n fr lt h.1)))
@@ -113,11 +117,13 @@ module _ {F : Type 0} (p : Setup F) (q : Law p) where
   Stays k c s (Broke e f t) = t (Data c) ≡ s (Data c)
   Stays k c s (Ran_through t) = t (Data c) ≡ s (Data c)
 
-  stays_after : (k n : ℕ) (c : DatCell) (s t : Store) → p.program.kind k ≡ Ordered → n < elements p.program k → p.modifies k c.dat ≡ false → t (Data c) ≡ s (Data c) → (x : Ran F) → p.program.run k n t ≡ x → Stays k c s (after_run n t x)
+  stays_after : (k n : ℕ) (c : DatCell) (s t : Store) → p.program.kind k ≡ Ordered → n < elements p.program k → p.modifies k c.dat ≡ false
+      → t (Data c) ≡ s (Data c) → (x : Ran F) → p.program.run k n t ≡ x → Stays k c s (after_run n t x)
   stays_after k n c s t od lt un h (Faulted f) e = h
   stays_after k n c s t od lt un h (Finished u) e = q.lawful.kernels.stays k n t u c od lt e un ∙ h
 
-  stays_more : (k n : ℕ) (c : DatCell) (s : Store) (r : Loop F) → p.program.kind k ≡ Ordered → n < elements p.program k → p.modifies k c.dat ≡ false → Stays k c s r → Stays k c s (one_more p.program k n r)
+  stays_more : (k n : ℕ) (c : DatCell) (s : Store) (r : Loop F) → p.program.kind k ≡ Ordered → n < elements p.program k
+      → p.modifies k c.dat ≡ false → Stays k c s r → Stays k c s (one_more p.program k n r)
   stays_more k n c s (Broke e f t) od lt un h = h
   stays_more k n c s (Ran_through t) od lt un h = stays_after k n c s t od lt un h (p.program.run k n t) refl
 
@@ -131,17 +137,30 @@ module _ {F : Type 0} (p : Setup F) (q : Law p) where
 -- what a Free item does
 pub data FreeCase {F : Type 0} (p : Setup F) (k : ℕ) : Type 0 where
   was_over : is_going (seq p.program k) ≡ false → seq p.program (suc k) ≡ seq p.program k → FreeCase p k
-  goes_on : is_going (seq p.program k) ≡ true → is_going (seq p.program (suc k)) ≡ true → ((e : ℕ) → e < elements p.program k → fault p k e (store_at p k) ≡ None) → ((c : Cell) → store_at p (suc k) c ≡ folded (elements p.program k) (λ e. true) (λ e. effect p k e (store_at p k) c) (store_at p k c)) → output_of (seq p.program (suc k)) ≡ output_of (seq p.program k) → FreeCase p k
-  ends : is_going (seq p.program k) ≡ true → (e : ℕ) (f : F) → e < elements p.program k → fault p k e (store_at p k) ≡ Some f → ((a : ℕ) → a < e → fault p k a (store_at p k) ≡ None) → (s : Store) → seq p.program (suc k) ≡ Stopped (record { item = k; element = Some e; fault = f }) s (output_of (seq p.program k)) → FreeCase p k
+  goes_on : is_going (seq p.program k) ≡ true → is_going (seq p.program (suc k)) ≡ true
+      → ((e : ℕ) → e < elements p.program k → fault p k e (store_at p k) ≡ None)
+      → ((c : Cell) → store_at p (suc k) c ≡ folded (elements p.program k) (λ e. true) (λ e. effect p k e (store_at p k) c)
+      (store_at p k c)) → output_of (seq p.program (suc k)) ≡ output_of (seq p.program k) → FreeCase p k
+  ends : is_going (seq p.program k) ≡ true → (e : ℕ) (f : F) → e < elements p.program k → fault p k e (store_at p k) ≡ Some f
+      → ((a : ℕ) → a < e → fault p k a (store_at p k) ≡ None) → (s : Store)
+      → seq p.program (suc k) ≡ Stopped (record { item = k; element = Some e; fault = f }) s (output_of (seq p.program k)) → FreeCase p k
 
 -- what any other item does
 pub data JoinCase {F : Type 0} (p : Setup F) (k : ℕ) : Type 0 where
   was_over_join : is_going (seq p.program k) ≡ false → seq p.program (suc k) ≡ seq p.program k → JoinCase p k
   reduces_join : p.program.kind k ≡ Reduce → is_going (seq p.program k) ≡ true → seq p.program (suc k) ≡ seq p.program k → JoinCase p k
-  runs_join : p.program.kind k ≡ Ordered → is_going (seq p.program k) ≡ true → (t : Store) → loop p.program k (elements p.program k) (store_at p k) ≡ Ran_through t → seq p.program (suc k) ≡ Going t (output_of (seq p.program k)) → JoinCase p k
-  breaks_join : p.program.kind k ≡ Ordered → is_going (seq p.program k) ≡ true → (e : ℕ) (f : F) (t : Store) → loop p.program k (elements p.program k) (store_at p k) ≡ Broke e f t → seq p.program (suc k) ≡ Stopped (record { item = k; element = Some e; fault = f }) t (output_of (seq p.program k)) → JoinCase p k
-  goes_join : p.program.kind k ≡ Host → is_going (seq p.program k) ≡ true → (v : VarCell → ℤ) (o : List ℕ) → p.program.host k (store_at p k) ≡ Goes v o → seq p.program (suc k) ≡ Going (with_variables v (store_at p k)) (output_of (seq p.program k) ++ o) → JoinCase p k
-  halts_join : p.program.kind k ≡ Host → is_going (seq p.program k) ≡ true → (f : F) → p.program.host k (store_at p k) ≡ Halts f → seq p.program (suc k) ≡ Stopped (record { item = k; element = None; fault = f }) (store_at p k) (output_of (seq p.program k)) → JoinCase p k
+  runs_join : p.program.kind k ≡ Ordered → is_going (seq p.program k) ≡ true → (t : Store)
+      → loop p.program k (elements p.program k) (store_at p k) ≡ Ran_through t
+      → seq p.program (suc k) ≡ Going t (output_of (seq p.program k)) → JoinCase p k
+  breaks_join : p.program.kind k ≡ Ordered → is_going (seq p.program k) ≡ true → (e : ℕ) (f : F) (t : Store)
+      → loop p.program k (elements p.program k) (store_at p k) ≡ Broke e f t
+      → seq p.program (suc k) ≡ Stopped (record { item = k; element = Some e; fault = f }) t (output_of (seq p.program k)) → JoinCase p k
+  goes_join : p.program.kind k ≡ Host → is_going (seq p.program k) ≡ true → (v : VarCell → ℤ) (o : List ℕ)
+      → p.program.host k (store_at p k) ≡ Goes v o → seq p.program (suc k) ≡ Going (with_variables v (store_at p k))
+      (output_of (seq p.program k) ++ o) → JoinCase p k
+  halts_join : p.program.kind k ≡ Host → is_going (seq p.program k) ≡ true → (f : F) → p.program.host k (store_at p k) ≡ Halts f
+      → seq p.program (suc k) ≡ Stopped (record { item = k; element = None; fault = f }) (store_at p k) (output_of (seq p.program k))
+      → JoinCase p k
 
 module _ {F : Type 0} (p : Setup F) (q : Law p) (k : ℕ) where
   free_loop : (s : Store) (o : List ℕ) → seq p.program k ≡ Going s o → (r : Loop F) → LoopIs p k s (elements p.program k) r → seq p.program (suc k) ≡ after_loop k o r → FreeCase p k
@@ -168,7 +187,8 @@ module _ {F : Type 0} (p : Setup F) (q : Law p) (k : ℕ) where
   free_case fr = free_at fr (seq p.program k) refl
 
 module _ {F : Type 0} (p : Setup F) (k : ℕ) where
-  join_loop : (s : Store) (o : List ℕ) → seq p.program k ≡ Going s o → p.program.kind k ≡ Ordered → (r : Loop F) → loop p.program k (elements p.program k) s ≡ r → seq p.program (suc k) ≡ after_loop k o r → JoinCase p k
+  join_loop : (s : Store) (o : List ℕ) → seq p.program k ≡ Going s o → p.program.kind k ≡ Ordered → (r : Loop F)
+      → loop p.program k (elements p.program k) s ≡ r → seq p.program (suc k) ≡ after_loop k o r → JoinCase p k
   join_loop s o e od (Ran_through t) a n =
       let E : s ≡ store_at p k = ap store_of (sym e) in
       let O : o ≡ output_of (seq p.program k) = ap output_of (sym e) in
@@ -186,7 +206,9 @@ module _ {F : Type 0} (p : Setup F) (k : ℕ) where
   join_host s o e ho (Halts f) a n =
       let E : s ≡ store_at p k = ap store_of (sym e) in
       let O : o ≡ output_of (seq p.program k) = ap output_of (sym e) in
-      halts_join ho (ap is_going e) f (ap (p.program.host k) (sym E) ∙ a) (n ∙ (ap (λ y. Stopped (record { item = k; element = None; fault = f }) y o) E ∙ ap (Stopped (record { item = k; element = None; fault = f }) (store_at p k)) O))
+      halts_join ho (ap is_going e) f (ap (p.program.host k) (sym E) ∙ a)
+          (n ∙ (ap (λ y. Stopped (record { item = k; element = None; fault = f }) y o) E
+          ∙ ap (Stopped (record { item = k; element = None; fault = f }) (store_at p k)) O))
 
   join_kind : (x : Kind) → p.program.kind k ≡ x → is_free x ≡ false → (s : Store) (o : List ℕ) → seq p.program k ≡ Going s o → JoinCase p k
   join_kind Free i h s o e = absurd (false≢true (sym h))

@@ -45,7 +45,8 @@ pub ended_at : {F : Type 0} (p : Setup F) (k : ℕ) → is_going (seq p.program 
 ended_at p zero h = absurd (false≢true (sym h))
 ended_at p (suc k) h = ⊎_elim
     (λ (t : is_going (seq p.program k) ≡ true). (k, omega arith, t, h))
-    (λ (f : is_going (seq p.program k) ≡ false). let r : (j : ℕ) × (j < k) × (is_going (seq p.program j) ≡ true) × (is_going (seq p.program (suc j)) ≡ false) = ended_at p k f in (r.0, (let lt : r.0 < k = r.1 in omega arith), r.2, r.3))
+    (λ (f : is_going (seq p.program k) ≡ false). let r : (j : ℕ) × (j < k) × (is_going (seq p.program j) ≡ true)
+        × (is_going (seq p.program (suc j)) ≡ false) = ended_at p k f in (r.0, (let lt : r.0 < k = r.1 in omega arith), r.2, r.3))
     (cases_Bool (is_going (seq p.program k)))
 
 -- the machine has stopped, as the sequential run does
@@ -56,7 +57,8 @@ pub record Halted {F : Type 0} (p : Setup F) (st : State F) : Type 0 where
 agrees_at : {F : Type 0} (p : Setup F) (x : Stop F) (t : Store) (o : List ℕ) (st : State F) (s : Seq F) → s ≡ Stopped x t o → st.stop ≡ Some x → st.output ≡ o → Agrees p s st
 agrees_at p x t o st s e stop out = subst (λ y. Agrees p y st) (sym e) (stop, out)
 
-pub halts_at : {F : Type 0} (p : Setup F) (x : Stop F) (t : Store) (o : List ℕ) (st : State F) (k : ℕ) → k ≤ p.program.items → seq p.program k ≡ Stopped x t o → st.stop ≡ Some x → st.output ≡ o → Halted p st
+pub halts_at : {F : Type 0} (p : Setup F) (x : Stop F) (t : Store) (o : List ℕ) (st : State F) (k : ℕ) → k ≤ p.program.items
+    → seq p.program k ≡ Stopped x t o → st.stop ≡ Some x → st.output ≡ o → Halted p st
 halts_at p x t o st k le e stop out = record {
   halted = ap is_some stop;
   agrees = agrees_at p x t o st (seq p.program p.program.items) (seq_ends p x t o k p.program.items e le) stop out;
@@ -82,7 +84,9 @@ module _ {F : Type 0} (p : Setup F) (q : Law p) (m : Step → Bool) (st : State 
       inv.recorded)
 
   -- the first faulty element is the least recorded
-  worse : (j e : ℕ) (f : F) → is_going (seq p.program j) ≡ true → fault p j e (store_at p j) ≡ Some f → ((a : ℕ) → a < e → fault p j a (store_at p j) ≡ None) → (y : Stop F) → Recorded p y → Beats (record { item = j; element = Some e; fault = f }) y
+  worse : (j e : ℕ) (f : F) → is_going (seq p.program j) ≡ true → fault p j e (store_at p j) ≡ Some f
+      → ((a : ℕ) → a < e → fault p j a (store_at p j) ≡ None) → (y : Stop F) → Recorded p y
+      → Beats (record { item = j; element = Some e; fault = f }) y
   worse j e f g bad none y h = ⊎_elim
       (λ (same_item : y.item ≡ j).
       let r : Culprit y = h (subst (λ i. is_going (seq p.program i) ≡ true) (sym same_item) g) in
@@ -122,15 +126,21 @@ module _ {F : Type 0} (p : Setup F) (q : Law p) (m : Step → Bool) (st : State 
           (let l : k < p.program.items = low in omega arith),
           ap is_free fr,
           q.lawful.items.owners (p.program.set j) e le,
-          and_from (nat_lt e (elements p.program j)) (executes p j (p.owner (p.program.set j) e) e) (lt-ltb e (elements p.program j) le) (or_left (p.owner (p.program.set j) e == p.owner (p.program.set j) e) (p.scatters j && p.import_execute (p.owner (p.program.set j) e) (p.program.set j) e) (eq-eqb (p.owner (p.program.set j) e) (p.owner (p.program.set j) e) refl)),
+          and_from (nat_lt e (elements p.program j)) (executes p j (p.owner (p.program.set j) e) e) (lt-ltb e (elements p.program j) le)
+              (or_left (p.owner (p.program.set j) e == p.owner (p.program.set j) e)
+              (p.scatters j && p.import_execute (p.owner (p.program.set j) e) (p.program.set j) e)
+              (eq-eqb (p.owner (p.program.set j) e) (p.owner (p.program.set j) e) refl)),
         )
         (by_item (p.owner (p.program.set j) e) refl tt lt) in
         let found : least k st.faults ≡ Some (record { item = j; element = Some e; fault = f }) =
         least_is k (record { item = j; element = Some e; fault = f }) st.faults lt (inv.kept j (p.owner (p.program.set j) e) e f taken g bad)
         (each_more (Recorded p) (λ y. y.item < k → Beats (record { item = j; element = Some e; fault = f }) y) st.faults (λ y h l. worse j e f g bad none y h) inv.recorded) in
-        let over_k : seq p.program k ≡ Stopped (record { item = j; element = Some e; fault = f }) t (output_of (seq p.program j)) = seq_ends p (record { item = j; element = Some e; fault = f }) t (output_of (seq p.program j)) (suc j) k n (omega arith) in
+        let over_k : seq p.program k ≡ Stopped (record { item = j; element = Some e; fault = f }) t (output_of (seq p.program j)) =
+            seq_ends p (record { item = j; element = Some e; fault = f }) t (output_of (seq p.program j)) (suc j) k n (omega arith) in
         subst (λ z. Halted p (joined p k z st)) (sym found)
-        (halts_at p (record { item = j; element = Some e; fault = f }) t (output_of (seq p.program j)) (joined p k (Some (record { item = j; element = Some e; fault = f })) st) k (let l : k < p.program.items = low in omega arith) over_k refl (told ∙ ap output_of over_k))
+        (halts_at p (record { item = j; element = Some e; fault = f }) t (output_of (seq p.program j))
+            (joined p k (Some (record { item = j; element = Some e; fault = f })) st) k (let l : k < p.program.items = low in omega arith)
+            over_k refl (told ∙ ap output_of over_k))
 
     -- the sequential run has ended in an earlier item
     pub fault_case : (j : ℕ) × (j < k) × (is_going (seq p.program j) ≡ true) × (is_going (seq p.program (suc j)) ≡ false) → Halted p (step p (Join k) st)
@@ -138,5 +148,7 @@ module _ {F : Type 0} (p : Setup F) (q : Law p) (m : Step → Bool) (st : State 
         let lt : h.0 < k = h.1 in
         ⊎_elim
         (λ (fr : is_free (p.program.kind h.0) ≡ true). free_fault h.0 h.1 h.2 h.3 (free_kind (p.program.kind h.0) fr) (free_case p q h.0 (free_kind (p.program.kind h.0) fr)))
-        (λ (fr : is_free (p.program.kind h.0) ≡ false). absurd (false≢true (sym h.3 ∙ inv.went h.0 (rd.after (Join h.0) ((let l : k < p.program.items = low in omega arith), fr) (by_item 0 tt tt lt)))))
+        (λ (fr : is_free (p.program.kind h.0) ≡ false). absurd
+            (false≢true (sym h.3 ∙ inv.went h.0
+            (rd.after (Join h.0) ((let l : k < p.program.items = low in omega arith), fr) (by_item 0 tt tt lt)))))
         (cases_Bool (is_free (p.program.kind h.0)))

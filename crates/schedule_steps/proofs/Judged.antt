@@ -17,7 +17,8 @@ use Rattle.schedule_steps.proofs.Standard.{accepted}
 module _ (o : Outline) where
   passes : (k s r : ℕ) → (nat_lt k o.items && (o.is_free k && (nat_lt s o.ranks && (nat_lt r o.ranks && o.sends k s r)))) ≡ true → Passes o k s r
   passes k s r h =
-      let a : (nat_lt k o.items ≡ true) × ((o.is_free k && (nat_lt s o.ranks && (nat_lt r o.ranks && o.sends k s r))) ≡ true) = and_parts (nat_lt k o.items) (o.is_free k && (nat_lt s o.ranks && (nat_lt r o.ranks && o.sends k s r))) h in
+      let a : (nat_lt k o.items ≡ true) × ((o.is_free k && (nat_lt s o.ranks && (nat_lt r o.ranks && o.sends k s r))) ≡ true) =
+          and_parts (nat_lt k o.items) (o.is_free k && (nat_lt s o.ranks && (nat_lt r o.ranks && o.sends k s r))) h in
       let b : (o.is_free k ≡ true) × ((nat_lt s o.ranks && (nat_lt r o.ranks && o.sends k s r)) ≡ true) = and_parts (o.is_free k) (nat_lt s o.ranks && (nat_lt r o.ranks && o.sends k s r)) a.1 in
       let c : (nat_lt s o.ranks ≡ true) × ((nat_lt r o.ranks && o.sends k s r) ≡ true) = and_parts (nat_lt s o.ranks) (nat_lt r o.ranks && o.sends k s r) b.1 in
       let d : (nat_lt r o.ranks ≡ true) × (o.sends k s r ≡ true) = and_parts (nat_lt r o.ranks) (o.sends k s r) c.1 in
@@ -148,7 +149,8 @@ module _ (o : Outline) where
   earlier_to _ _ (received {k} {r} {s} {e} h) = in_item (Recv k r s) (Begin k r e)
       (and_from (k == k) ((r == r) && not (o.is_core k r e)) (eq-eqb k k refl) (and_from (r == r) (not (o.is_core k r e)) (eq-eqb r r refl) (not_from_false (o.is_core k r e) h)))
   earlier_to _ _ (begun {k} {r} {e}) = in_item (Begin k r e) (End k r e) (same3_refl k r e)
-  earlier_to _ _ (coloured {k} {r} {e} {f} h) = in_item (End k r e) (Begin k r f) (and_from (k == k) ((r == r) && by_colour o k r e f) (eq-eqb k k refl) (and_from (r == r) (by_colour o k r e f) (eq-eqb r r refl) h))
+  earlier_to _ _ (coloured {k} {r} {e} {f} h) = in_item (End k r e) (Begin k r f)
+      (and_from (k == k) ((r == r) && by_colour o k r e f) (eq-eqb k k refl) (and_from (r == r) (by_colour o k r e f) (eq-eqb r r refl) h))
 
   pub earlier_test : (t s : Step) → (is_earlier o t s ≡ true) ↔ Earlier o t s
   earlier_test t s = (earlier_from t s, earlier_to t s)

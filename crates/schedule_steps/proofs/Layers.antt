@@ -28,7 +28,9 @@ has_where b l t h i = subst (λ z. has z t ≡ true) (sym (cond-true b l [] h)) 
 module _ (o : Outline) (g : ℕ) where
   sorted_append : (P Q : Step → Type 0) (a b : List Step) → Sorted o g a → Sorted o g b → Each P a → Each Q b → ((x y : Step) → P x → Q y → Less (key o g x) (key o g y)) → Sorted o g (a ++ b)
   sorted_append P Q [] b sa sb pa qb h = sb
-  sorted_append P Q (x ∷ a) b sa sb pa qb h = (each_append (λ y. Less (key o g x) (key o g y)) a b sa.0 (each_map Q (λ y. Less (key o g x) (key o g y)) b (λ y. h x y pa.0) qb), sorted_append P Q a b sa.1 sb pa.1 qb h)
+  sorted_append P Q (x ∷ a) b sa sb pa qb h =
+      (each_append (λ y. Less (key o g x) (key o g y)) a b sa.0 (each_map Q (λ y. Less (key o g x) (key o g y)) b (λ y. h x y pa.0) qb),
+      sorted_append P Q a b sa.1 sb pa.1 qb h)
 
   -- the step's key begins so
   abbrev pub Begins : List ℕ → Step → Type 0
@@ -66,10 +68,13 @@ module _ (o : Outline) (g : ℕ) where
   layer_below pre f (suc n) h = record {
     sorted = sorted_append (λ x. (i : ℕ) × (i < n) × Begins (pre ++ (i ∷ [])) x) (Begins (pre ++ (n ∷ []))) (below f n) (f n)
         (layer_below pre f n (λ i lt. h i (omega arith))).sorted (h n (omega arith)).sorted
-        (each_below (λ x. (i : ℕ) × (i < n) × Begins (pre ++ (i ∷ [])) x) f n (λ i lt. each_map (Begins (pre ++ (i ∷ []))) (λ x. (i : ℕ) × (i < n) × Begins (pre ++ (i ∷ [])) x) (f i) (λ x px. (i, lt, px)) (h i (omega arith)).begins))
+        (each_below (λ x. (i : ℕ) × (i < n) × Begins (pre ++ (i ∷ [])) x) f n
+            (λ i lt. each_map (Begins (pre ++ (i ∷ []))) (λ x. (i : ℕ) × (i < n) × Begins (pre ++ (i ∷ [])) x) (f i) (λ x px. (i, lt, px))
+            (h i (omega arith)).begins))
         (h n (omega arith)).begins
         (λ x y px py. less_begins pre px.0 n x y px.1 px.2 py);
-    begins = each_append (Begins pre) (below f n) (f n) (layer_below pre f n (λ i lt. h i (omega arith))).begins (each_map (Begins (pre ++ (n ∷ []))) (Begins pre) (f n) (shorter pre n) (h n (omega arith)).begins);
+    begins = each_append (Begins pre) (below f n) (f n) (layer_below pre f n (λ i lt. h i (omega arith))).begins
+        (each_map (Begins (pre ++ (n ∷ []))) (Begins pre) (f n) (shorter pre n) (h n (omega arith)).begins);
   }
 
   pub rest_of : (pre : List ℕ) (i j : ℕ) (l : List Step) → i < j → Layer (pre ++ (j ∷ [])) l → Rest pre i l
@@ -79,13 +84,15 @@ module _ (o : Outline) (g : ℕ) where
   pub rest_append : (pre : List ℕ) (i j : ℕ) (a b : List Step) → i < j → Layer (pre ++ (j ∷ [])) a → Rest pre j b → Rest pre i (a ++ b)
   rest_append pre i j a b lt ha hb = record {
     sorted = sorted_append (Begins (pre ++ (j ∷ []))) (Beyond pre j) a b ha.sorted hb.sorted ha.begins hb.beyond (λ x y px py. less_begins pre j py.0 x y py.1 px py.2);
-    beyond = each_append (Beyond pre i) a b (each_map (Begins (pre ++ (j ∷ []))) (Beyond pre i) a (λ x px. (j, lt, px)) ha.begins) (each_map (Beyond pre j) (Beyond pre i) b (λ x px. (px.0, (let l : j < px.0 = px.1 in omega arith), px.2)) hb.beyond);
+    beyond = each_append (Beyond pre i) a b (each_map (Begins (pre ++ (j ∷ []))) (Beyond pre i) a (λ x px. (j, lt, px)) ha.begins)
+        (each_map (Beyond pre j) (Beyond pre i) b (λ x px. (px.0, (let l : j < px.0 = px.1 in omega arith), px.2)) hb.beyond);
   }
 
   pub layer_append : (pre : List ℕ) (i : ℕ) (a b : List Step) → Layer (pre ++ (i ∷ [])) a → Rest pre i b → Layer pre (a ++ b)
   layer_append pre i a b ha hb = record {
     sorted = sorted_append (Begins (pre ++ (i ∷ []))) (Beyond pre i) a b ha.sorted hb.sorted ha.begins hb.beyond (λ x y px py. less_begins pre i py.0 x y py.1 px py.2);
-    begins = each_append (Begins pre) a b (each_map (Begins (pre ++ (i ∷ []))) (Begins pre) a (shorter pre i) ha.begins) (each_map (Beyond pre i) (Begins pre) b (λ x px. shorter pre px.0 x px.2) hb.beyond);
+    begins = each_append (Begins pre) a b (each_map (Begins (pre ++ (i ∷ []))) (Begins pre) a (shorter pre i) ha.begins)
+        (each_map (Beyond pre i) (Begins pre) b (λ x px. shorter pre px.0 x px.2) hb.beyond);
   }
 
   -- the same keys, of which less is said

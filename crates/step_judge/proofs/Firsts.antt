@@ -60,7 +60,11 @@ module _ (v : Marked) (o : Outline) (marks : AreMarksOf o v) (k : ℕ) (item : k
     pub free_item : (x : Option Step) → (item_at v k).free ≡ true
         → x ≡ first_of f (below (sends_of o k) o.ranks ++ (below (receives_of o k) o.ranks ++ below (element_steps o 1 k) o.ranks))
         → x ≡ first_of f (item_steps o 1 k)
-    free_item x free h = h ∙ ap (first_of f) (sym (cond-true (o.is_free k) (below (sends_of o k) o.ranks ++ (below (receives_of o k) o.ranks ++ below (element_steps o 1 k) o.ranks)) (Join k ∷ []) (sym (marks.alike.is_free k item) ∙ free)))
+    free_item x free h = h ∙ ap (first_of f)
+        (sym (cond-true (o.is_free k) (below (sends_of o k) o.ranks ++
+        (below (receives_of o k) o.ranks ++ below (element_steps o 1 k) o.ranks)) (Join k ∷ []) (sym (marks.alike.is_free k item) ∙ free)))
 
     pub join_item : (x : Option Step) → (item_at v k).free ≡ false → x ≡ first_of f (Join k ∷ []) → x ≡ first_of f (item_steps o 1 k)
-    join_item x free h = h ∙ ap (first_of f) (sym (cond-false (o.is_free k) (below (sends_of o k) o.ranks ++ (below (receives_of o k) o.ranks ++ below (element_steps o 1 k) o.ranks)) (Join k ∷ []) (sym (marks.alike.is_free k item) ∙ free)))
+    join_item x free h = h ∙ ap (first_of f)
+        (sym (cond-false (o.is_free k) (below (sends_of o k) o.ranks ++
+        (below (receives_of o k) o.ranks ++ below (element_steps o 1 k) o.ranks)) (Join k ∷ []) (sym (marks.alike.is_free k item) ∙ free)))

@@ -53,7 +53,9 @@ one_fewer m n (t ∷ l) s h new old i = ⊎_elim
 pub judged_well : (o : Outline) (m : Step → Bool) (s : Step) → Ok tt ≡ judged o m s → (is_step o s ≡ true) × (m s ≡ false)
 judged_well o m s h = ⊎_elim
     (λ (u : is_step o s ≡ true). ⊎_elim
-    (λ (t : m s ≡ true). (let e : Ok tt ≡ Err Repeated = h ∙ (cond-true (is_step o s) (cond (m s) (Err Repeated) (too_early (missing o m s))) (Err NoSuchStep) u ∙ cond-true (m s) (Err Repeated) (too_early (missing o m s)) t) in cc))
+    (λ (t : m s ≡ true). (let e : Ok tt ≡ Err Repeated = h
+        ∙ (cond-true (is_step o s) (cond (m s) (Err Repeated) (too_early (missing o m s))) (Err NoSuchStep) u
+        ∙ cond-true (m s) (Err Repeated) (too_early (missing o m s)) t) in cc))
     (λ (t : m s ≡ false). (u, t))
     (cases_Bool (m s)))
     (λ (u : is_step o s ≡ false). (let e : Ok tt ≡ Err NoSuchStep = h ∙ cond-false (is_step o s) (cond (m s) (Err Repeated) (too_early (missing o m s))) (Err NoSuchStep) u in cc))
@@ -73,12 +75,14 @@ mails_most f most h (Begin k a b) n = omega arith
 mails_most f most h (End k a b) n = omega arith
 mails_most f most h (Join k) n = omega arith
 
-module _ (v w : Marked) (cells : List (List ℕ)) (n u : ℕ) (s : Step) (room : HasRoom v cells n u) (takes : TakesOne v w s) (planned : is_step (outline_of v) s ≡ true) (open_step' : taken v s ≡ false) where
+module _ (v w : Marked) (cells : List (List ℕ)) (n u : ℕ) (s : Step) (room : HasRoom v cells n u) (takes : TakesOne v w s)
+    (planned : is_step (outline_of v) s ≡ true) (open_step' : taken v s ≡ false) where
   drops : untaken (taken w) room.all + 1 ≤ untaken (taken v) room.all
   drops = one_fewer (taken v) (taken w) room.all s takes.marks (takes.marks s ∙ or_left (same s s) (taken v s) (same_refl s)) open_step' (room.whole s planned)
 
   grows : room.most * untaken (taken w) room.all + room.most ≤ room.most * untaken (taken v) room.all
-  grows = (let l : room.most * (untaken (taken w) room.all + 1) ≤ room.most * untaken (taken v) room.all = mul-le room.most (untaken (taken w) room.all + 1) room.most (untaken (taken v) room.all) (omega arith) drops in
+  grows = (let l : room.most * (untaken (taken w) room.all + 1) ≤ room.most * untaken (taken v) room.all =
+      mul-le room.most (untaken (taken w) room.all + 1) room.most (untaken (taken v) room.all) (omega arith) drops in
       let e : room.most * (untaken (taken w) room.all + 1) ≡ room.most * untaken (taken w) room.all + room.most = grind arith in omega arith)
 
   -- there is room for the step
@@ -86,7 +90,8 @@ module _ (v w : Marked) (cells : List (List ℕ)) (n u : ℕ) (s : Step) (room :
   one_fits = (let d : untaken (taken w) room.all + 1 ≤ untaken (taken v) room.all = drops in let f : n + untaken (taken v) room.all < 2 ^ 32 = room.frames in omega arith)
 
   pub message_fits : (c : ℕ) → c ≤ room.most → u + c < 2 ^ 64
-  message_fits c l = (let g : room.most * untaken (taken w) room.all + room.most ≤ room.most * untaken (taken v) room.all = grows in let f : u + room.most * untaken (taken v) room.all < 2 ^ 64 = room.mail in omega arith)
+  message_fits c l = (let g : room.most * untaken (taken w) room.all + room.most ≤ room.most * untaken (taken v) room.all = grows in
+      let f : u + room.most * untaken (taken v) room.all < 2 ^ 64 = room.mail in omega arith)
 
   same_cells : (k a b : ℕ) → cells_in cells w k a b ≡ cells_in cells v k a b
   same_cells k a b = ap (λ z. slice_index (slice_index_or cells k []) z) (takes.pairs k a b)
@@ -98,9 +103,11 @@ module _ (v w : Marked) (cells : List (List ℕ)) (n u : ℕ) (s : Step) (room :
     most = room.most;
     whole = λ t h. room.whole t (sym (takes.steps t) ∙ h);
     messages = λ k a b. subst (λ z. z ≤ room.most) (sym (same_cells k a b)) (room.messages k a b);
-    frames = (let o : open_step s n ≤ n + 1 = opens_one s n in let d : untaken (taken w) room.all + 1 ≤ untaken (taken v) room.all = drops in let f : n + untaken (taken v) room.all < 2 ^ 32 = room.frames in omega arith);
+    frames = (let o : open_step s n ≤ n + 1 = opens_one s n in let d : untaken (taken w) room.all + 1 ≤ untaken (taken v) room.all = drops
+        in let f : n + untaken (taken v) room.all < 2 ^ 32 = room.frames in omega arith);
     mail = (let o : mail_step (cells_in cells v) s u ≤ u + room.most = mails_most (cells_in cells v) room.most room.messages s u in
-        let g : room.most * untaken (taken w) room.all + room.most ≤ room.most * untaken (taken v) room.all = grows in let f : u + room.most * untaken (taken v) room.all < 2 ^ 64 = room.mail in omega arith);
+        let g : room.most * untaken (taken w) room.all + room.most ≤ room.most * untaken (taken v) room.all = grows in
+            let f : u + room.most * untaken (taken v) room.all < 2 ^ 64 = room.mail in omega arith);
   }
 
 -- the cells of a step's message

@@ -64,7 +64,17 @@ mesh_is_one : (input : Input) (files : Files) → IsOne (MeshIs input files)
 mesh_is_one (InFiles source mesh) files = held_is_one MeshBytes mesh (files mesh)
 mesh_is_one (OfSample side) files = told_is_one (sample_mesh side)
 
-module _ (walks_alike : WalksAlike) (kernels_are_one : KernelsAreOne) (one_read : (bytes : List ℕ) (a b : Read) → Spelled bytes a → Spelled bytes b → a ≡ b) (one_outcome : (bytes : List ℕ) (a b : lexer.Outcome) → Lexes bytes a → Lexes bytes b → a ≡ b) (one_tree : (bytes : List ℕ) (a b : ProgramTree) → Reads bytes a → Reads bytes b → a ≡ b) (one_resolved : (p : ProgramTree) (a b : names.Outcome) → Resolves p a → Resolves p b → a ≡ b) (walk_finds : WalkFinds) (obeys : ObeysUnlessBroken) (one_breach : OneRefusal) (plans_alike : (j : PlanJob) (o : Options) (files : Files) → 0 < o.ranks → Alike (PlannedAnswers j o files)) (chains_alike : (j : ChainJob) (o : ChainOptions) (files : Files) → 0 < o.ranks → Alike (ChainAnswers j o files)) (within : OptionsAreWithin) (one_translation : (bytes : List ℕ) (p : ProgramTree) (a b : trans.Outcome) → trans.Translates bytes p a → trans.Translates bytes p b → a ≡ b) (one_restoration : (bytes : List ℕ) (a b : trans.Outcome) → trans.Restores bytes a → trans.Restores bytes b → a ≡ b) where
+module _ (walks_alike : WalksAlike) (kernels_are_one : KernelsAreOne)
+    (one_read : (bytes : List ℕ) (a b : Read) → Spelled bytes a → Spelled bytes b → a ≡ b)
+    (one_outcome : (bytes : List ℕ) (a b : lexer.Outcome) → Lexes bytes a → Lexes bytes b → a ≡ b)
+    (one_tree : (bytes : List ℕ) (a b : ProgramTree) → Reads bytes a → Reads bytes b → a ≡ b)
+    (one_resolved : (p : ProgramTree) (a b : names.Outcome) → Resolves p a → Resolves p b → a ≡ b) (walk_finds : WalkFinds)
+    (obeys : ObeysUnlessBroken) (one_breach : OneRefusal)
+    (plans_alike : (j : PlanJob) (o : Options) (files : Files) → 0 < o.ranks → Alike (PlannedAnswers j o files))
+    (chains_alike : (j : ChainJob) (o : ChainOptions) (files : Files) → 0 < o.ranks → Alike (ChainAnswers j o files))
+    (within : OptionsAreWithin) (one_translation : (bytes : List ℕ) (p : ProgramTree) (a b : trans.Outcome) → trans.Translates bytes p a
+    → trans.Translates bytes p b → a ≡ b) (one_restoration : (bytes : List ℕ) (a b : trans.Outcome) → trans.Restores bytes a
+    → trans.Restores bytes b → a ≡ b) where
   -- ---- accesses
 
   -- what is found in the loops' kernels
@@ -74,7 +84,8 @@ module _ (walks_alike : WalksAlike) (kernels_are_one : KernelsAreOne) (one_read 
   found_same : (b c : BoundValue) → IsSame b c → found b ≡ found c
   found_same b c same = sites_found walks_alike kernels_are_one b c.kernels same.1 ∙ ap found (sym same.0)
 
-  accesses_agree : (N : Type 0) (rest : BoundValue → Answer → Type 0) → Alike rest → (b c : BoundValue) → IsSame b c → (x y : Answer) → given (AccessesAre b) (λ _. rest b) x → given (AccessesAre c) (λ _. rest c) y → AgreeBut N x y
+  accesses_agree : (N : Type 0) (rest : BoundValue → Answer → Type 0) → Alike rest → (b c : BoundValue) → IsSame b c → (x y : Answer)
+      → given (AccessesAre b) (λ _. rest b) x → given (AccessesAre c) (λ _. rest c) y → AgreeBut N x y
   accesses_agree N rest alike b c same =
       given_both (AccessesAre b) (AccessesAre c) (λ _. rest b) (λ _. rest c) (AgreeBut N) refusals refused_b refused_c (λ u v h k x y p q. same_answers N x y (alike b c same x y p q))
     where
@@ -100,7 +111,10 @@ module _ (walks_alike : WalksAlike) (kernels_are_one : KernelsAreOne) (one_read 
 
   -- ---- binding
 
-  bounds_agree : (N : Type 0) (rest : BoundValue → Answer → Type 0) → Alike rest → (p : ProgramTree) (r q : Resolved) → resolved_of r ≡ resolved_of q → (es : List Named) → (x y : Answer) → given (BoundIs p r es) (λ b. given (AccessesAre b) (λ _. rest b)) x → given (BoundIs p q es) (λ b. given (AccessesAre b) (λ _. rest b)) y → AgreeBut N x y
+  bounds_agree : (N : Type 0) (rest : BoundValue → Answer → Type 0) → Alike rest → (p : ProgramTree) (r q : Resolved)
+      → resolved_of r ≡ resolved_of q → (es : List Named) → (x y : Answer)
+      → given (BoundIs p r es) (λ b. given (AccessesAre b) (λ _. rest b)) x
+      → given (BoundIs p q es) (λ b. given (AccessesAre b) (λ _. rest b)) y → AgreeBut N x y
   bounds_agree N rest alike p r q e es =
       given_both (BoundIs p r es) (BoundIs p q es) (λ b. given (AccessesAre b) (λ _. rest b)) (λ b. given (AccessesAre b) (λ _. rest b)) (AgreeBut N) refusals one_refused other_refused values
     where
@@ -139,21 +153,30 @@ module _ (walks_alike : WalksAlike) (kernels_are_one : KernelsAreOne) (one_read 
     values = λ a b h k. let e : ◌≡◌ {A = Read} (Ok a) (Ok b) = one_read text (Ok a) (Ok b) h k in cc;
   }
 
-  entries_agree : (N : Type 0) (rest : BoundValue → Answer → Type 0) → Alike rest → (p : ProgramTree) (r q : Resolved) → resolved_of r ≡ resolved_of q → (text : List ℕ) → (x y : Answer) → given (EntriesAre text) (λ es. given (BoundIs p r es) (λ b. given (AccessesAre b) (λ _. rest b))) x → given (EntriesAre text) (λ es. given (BoundIs p q es) (λ b. given (AccessesAre b) (λ _. rest b))) y → AgreeBut N x y
+  entries_agree : (N : Type 0) (rest : BoundValue → Answer → Type 0) → Alike rest → (p : ProgramTree) (r q : Resolved)
+      → resolved_of r ≡ resolved_of q → (text : List ℕ) → (x y : Answer)
+      → given (EntriesAre text) (λ es. given (BoundIs p r es) (λ b. given (AccessesAre b) (λ _. rest b))) x
+      → given (EntriesAre text) (λ es. given (BoundIs p q es) (λ b. given (AccessesAre b) (λ _. rest b))) y → AgreeBut N x y
   entries_agree N rest alike p r q e text =
       given_alike (EntriesAre text) (λ es. given (BoundIs p r es) (λ b. given (AccessesAre b) (λ _. rest b))) (λ es. given (BoundIs p q es) (λ b. given (AccessesAre b) (λ _. rest b))) (AgreeBut N)
       (λ s t h k. same_refusals N s t ((entries_are_one text).refusals s t h k)) (entries_are_one text).apart (entries_are_one text).values
       (λ es h. bounds_agree N rest alike p r q e es)
 
-  meshes_agree : (N : Type 0) (rest : BoundValue → Answer → Type 0) → Alike rest → (input : Input) (files : Files) (p : ProgramTree) (r q : Resolved) → resolved_of r ≡ resolved_of q → (x y : Answer) → FromMesh rest input files p r x → FromMesh rest input files p q y → AgreeBut N x y
+  meshes_agree : (N : Type 0) (rest : BoundValue → Answer → Type 0) → Alike rest
+      → (input : Input) (files : Files) (p : ProgramTree) (r q : Resolved) → resolved_of r ≡ resolved_of q → (x y : Answer)
+      → FromMesh rest input files p r x → FromMesh rest input files p q y → AgreeBut N x y
   meshes_agree N rest alike input files p r q e =
-      given_alike (MeshIs input files) (λ text. given (EntriesAre text) (λ es. given (BoundIs p r es) (λ b. given (AccessesAre b) (λ _. rest b)))) (λ text. given (EntriesAre text) (λ es. given (BoundIs p q es) (λ b. given (AccessesAre b) (λ _. rest b)))) (AgreeBut N)
+      given_alike (MeshIs input files)
+          (λ text. given (EntriesAre text) (λ es. given (BoundIs p r es) (λ b. given (AccessesAre b) (λ _. rest b))))
+          (λ text. given (EntriesAre text) (λ es. given (BoundIs p q es) (λ b. given (AccessesAre b) (λ _. rest b)))) (AgreeBut N)
       (λ s t h k. same_refusals N s t ((mesh_is_one input files).refusals s t h k)) (mesh_is_one input files).apart (mesh_is_one input files).values
       (λ text h. entries_agree N rest alike p r q e text)
 
   -- ---- the source
 
-  types_agree : (N : Type 0) (rest : BoundValue → Answer → Type 0) → Alike rest → (input : Input) (files : Files) (p : ProgramTree) → (x y : Answer) → given (TypesAre p) (FromMesh rest input files p) x → given (TypesAre p) (FromMesh rest input files p) y → AgreeBut N x y
+  types_agree : (N : Type 0) (rest : BoundValue → Answer → Type 0) → Alike rest → (input : Input) (files : Files) (p : ProgramTree)
+      → (x y : Answer) → given (TypesAre p) (FromMesh rest input files p) x → given (TypesAre p) (FromMesh rest input files p) y
+      → AgreeBut N x y
   types_agree N rest alike input files p =
       given_both (TypesAre p) (TypesAre p) (FromMesh rest input files p) (FromMesh rest input files p) (AgreeBut N) refusals (λ s q h k. mixed s q h k) (λ r t h k. mixed t r k h) values
     where
@@ -174,7 +197,9 @@ module _ (walks_alike : WalksAlike) (kernels_are_one : KernelsAreOne) (one_read 
   Lacks input files = (bytes : List ℕ) × SourceIs input files (Ok bytes) × LacksTree bytes
 
   -- where answers of one tree agree, those of the bytes do
-  trees_agree : (N : Type 0) (bytes : List ℕ) → (LacksTree bytes → N) → (rest : ProgramTree → Answer → Type 0) → ((p : ProgramTree) (x y : Answer) → rest p x → rest p y → AgreeBut N x y) → (x y : Answer) → given (TreeIs bytes) rest x → given (TreeIs bytes) rest y → AgreeBut N x y
+  trees_agree : (N : Type 0) (bytes : List ℕ) → (LacksTree bytes → N) → (rest : ProgramTree → Answer → Type 0)
+      → ((p : ProgramTree) (x y : Answer) → rest p x → rest p y → AgreeBut N x y) → (x y : Answer) → given (TreeIs bytes) rest x
+      → given (TreeIs bytes) rest y → AgreeBut N x y
   trees_agree N bytes lacks rest agree =
       given_alike (TreeIs bytes) rest rest (AgreeBut N) refusals (λ s p h k. h.1.none p k) (λ a b h k. one_tree bytes a b h k) (λ p h. agree p)
     where
@@ -189,9 +214,11 @@ module _ (walks_alike : WalksAlike) (kernels_are_one : KernelsAreOne) (one_read 
         line = lines s t (tree_lines one_outcome bytes s t h k);
       }
 
-  programs_agree : (rest : BoundValue → Answer → Type 0) → Alike rest → (input : Input) (files : Files) → (x y : Answer) → BoundAnswers rest input files x → BoundAnswers rest input files y → AgreeBut (Lacks input files) x y
+  programs_agree : (rest : BoundValue → Answer → Type 0) → Alike rest → (input : Input) (files : Files) → (x y : Answer)
+      → BoundAnswers rest input files x → BoundAnswers rest input files y → AgreeBut (Lacks input files) x y
   programs_agree rest alike input files =
-      given_alike (SourceIs input files) (λ bytes. given (TreeIs bytes) (λ p. given (TypesAre p) (FromMesh rest input files p))) (λ bytes. given (TreeIs bytes) (λ p. given (TypesAre p) (FromMesh rest input files p))) (AgreeBut (Lacks input files))
+      given_alike (SourceIs input files) (λ bytes. given (TreeIs bytes) (λ p. given (TypesAre p) (FromMesh rest input files p)))
+          (λ bytes. given (TreeIs bytes) (λ p. given (TypesAre p) (FromMesh rest input files p))) (AgreeBut (Lacks input files))
       (λ s t h k. same_refusals (Lacks input files) s t ((source_is_one input files).refusals s t h k)) (source_is_one input files).apart (source_is_one input files).values
       (λ bytes h. trees_agree (Lacks input files) bytes (λ l. (bytes, h, l)) (λ p. given (TypesAre p) (FromMesh rest input files p)) (types_agree (Lacks input files) rest alike input files))
 
@@ -212,11 +239,13 @@ module _ (walks_alike : WalksAlike) (kernels_are_one : KernelsAreOne) (one_read 
 
   translations_agree : (source : List ℕ) (files : Files) → (x y : Answer) → TranslateAnswers source files x → TranslateAnswers source files y → AgreeBut (FileLacks source files) x y
   translations_agree source files =
-      given_alike (TextIs source files) _ _ (AgreeBut (FileLacks source files)) (λ s t h k. same_refusals (FileLacks source files) s t ((held_is_one SourceBytes source (files source)).refusals s t h k))
+      given_alike (TextIs source files) _ _ (AgreeBut (FileLacks source files))
+          (λ s t h k. same_refusals (FileLacks source files) s t ((held_is_one SourceBytes source (files source)).refusals s t h k))
       (held_is_one SourceBytes source (files source)).apart (held_is_one SourceBytes source (files source)).values
       (λ bytes h.
       trees_agree (FileLacks source files) bytes (λ l. (bytes, h, l)) (λ p. given (TranslationIs bytes p) (λ out a. a ≡ done out)) (λ p.
-      given_alike (TranslationIs bytes p) _ _ (AgreeBut (FileLacks source files)) (λ s t h k. same_refusals (FileLacks source files) s t ((translation_is_one one_translation bytes p).refusals s t h k))
+      given_alike (TranslationIs bytes p) _ _ (AgreeBut (FileLacks source files))
+          (λ s t h k. same_refusals (FileLacks source files) s t ((translation_is_one one_translation bytes p).refusals s t h k))
       (translation_is_one one_translation bytes p).apart (translation_is_one one_translation bytes p).values
       (λ out _ x y h k. same_answers (FileLacks source files) x y (h ∙ sym k))))
 
@@ -254,7 +283,9 @@ module _ (walks_alike : WalksAlike) (kernels_are_one : KernelsAreOne) (one_read 
 
   pub answers_agree : AnswersAgree
   answers_agree words files =
-      given_alike (WordsAre words) (λ c. CommandAnswers c files) (λ c. CommandAnswers c files) (Agree words files) refusals (λ s c h k. let e : Err s ≡ Ok c = sym h ∙ k in let bad : ⊥ = cc in bad) (λ c d h k. let e : Ok c ≡ Ok d = sym h ∙ k in let same : c ≡ d = cc in same) (λ c h. commands_agree words files c h)
+      given_alike (WordsAre words) (λ c. CommandAnswers c files) (λ c. CommandAnswers c files) (Agree words files) refusals
+          (λ s c h k. let e : Err s ≡ Ok c = sym h ∙ k in let bad : ⊥ = cc in bad)
+          (λ c d h k. let e : Ok c ≡ Ok d = sym h ∙ k in let same : c ≡ d = cc in same) (λ c h. commands_agree words files c h)
     where
       refusals : (s t : Refusal) → WordsAre words (Err s) → WordsAre words (Err t) → Agree words files (refused s) (refused t)
       refusals s t h k =

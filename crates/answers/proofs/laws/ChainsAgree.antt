@@ -25,7 +25,8 @@ use Rattle.answers.proofs.laws.SameBound.{IsSame}
 use Rattle.answers.proofs.laws.PlansAgree.{parts_are_one}
 
 module _ (on_cells : RunsAnswerOnCells) (programs_are_one : ProgramsAreOne) (chains_are_one : ChainsAreOne) (one_owners : OwnersAreOne) where
-  module _ (j : ChainJob) (o : ChainOptions) (files : Files) (some : 0 < o.ranks) (b : BoundValue) (ks : List RKernel) (same : map rkernel_of b.kernels ≡ map rkernel_of ks) (fits : Fits b) (others : Fits (with_kernels b ks)) where
+  module _ (j : ChainJob) (o : ChainOptions) (files : Files) (some : 0 < o.ranks) (b : BoundValue) (ks : List RKernel)
+      (same : map rkernel_of b.kernels ≡ map rkernel_of ks) (fits : Fits b) (others : Fits (with_kernels b ks)) where
     abbrev c : BoundValue
     c = with_kernels b ks
 
@@ -61,7 +62,8 @@ module _ (on_cells : RunsAnswerOnCells) (programs_are_one : ProgramsAreOne) (cha
         given_alike (PartsOf o.parting files) (FromParts b) (FromParts c) (λ x y. x ≡ y) (λ r s h k. ap refused (one.refusals r s h k)) one.apart one.values
         (λ parts h. owners_agree parts)
 
-  pub chains_alike : (j : ChainJob) (o : ChainOptions) (files : Files) → 0 < o.ranks → (b c : BoundValue) → IsSame b c → (x y : Answer) → ChainAnswers j o files b x → ChainAnswers j o files c y → x ≡ y
+  pub chains_alike : (j : ChainJob) (o : ChainOptions) (files : Files) → 0 < o.ranks → (b c : BoundValue) → IsSame b c → (x y : Answer)
+      → ChainAnswers j o files b x → ChainAnswers j o files c y → x ≡ y
   chains_alike j o files some b c same x y h k =
       let other = subst (λ d. ChainAnswers j o files d y) same.0 k in
       parts_agree j o files some b c.kernels same.1 h.0 other.0 x y h.1 other.1

@@ -79,7 +79,8 @@ chained_over j o none f g b a h =
     by_parts parts = given (OwnersOf o.ranks b parts) (λ u x. x ≡ chain_answer j o.dumps b u)
 
 -- the sample is read from no file
-sample_over : (rest more : BoundValue → Answer → Type 0) (side : ℕ) → ((b : BoundValue) (a : Answer) → rest b a → more b a) → (f g : Files) (a : Answer) → BoundAnswers rest (OfSample side) f a → BoundAnswers more (OfSample side) g a
+sample_over : (rest more : BoundValue → Answer → Type 0) (side : ℕ) → ((b : BoundValue) (a : Answer) → rest b a → more b a)
+    → (f g : Files) (a : Answer) → BoundAnswers rest (OfSample side) f a → BoundAnswers more (OfSample side) g a
 sample_over rest more side over f g =
     given_on (SourceIs (OfSample side) f) (SourceIs (OfSample side) g) _ _ (λ r k. k) (λ bytes.
     given_on (TreeIs bytes) (TreeIs bytes) _ _ (λ r k. k) (λ p.

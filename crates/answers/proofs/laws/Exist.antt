@@ -76,7 +76,19 @@ abbrev pub ChainsAnswered : Type 0
 ChainsAnswered =
     (j : ChainJob) (o : ChainOptions) (files : Files) → AreFew o.ranks → (b : BoundValue) → Suits b → ¬ ((a : Answer) → ¬ ChainAnswers j o files b a)
 
-module _ (some_lexed : (bytes : List ℕ) → (o : Outcome) × Lexes bytes o) (some_types : (p : ProgramTree) → (o : names.Outcome) × Resolves p o) (types_causes : (p : ProgramTree) → ¬ Resolves p (Err types.OutOfMemory)) (some_kernels : (bytes : List ℕ) (p : ProgramTree) → Reads bytes p → length bytes < 2 ^ 63 → (r : Resolved) × (resolved_of r ≡ resolved p)) (deep : (bytes : List ℕ) (p : ProgramTree) (n : ℕ) → Deep bytes p n → IsFar bytes (place_at p.places bytes n)) (causes : (p : ProgramTree) (types : Resolved) (es : List Named) → bound p types es ≢ Err bind.OutOfMemory) (some_read : (bytes : List ℕ) → (o : Read) × Spelled bytes o) (mesh_causes : (bytes : List ℕ) → ¬ Refuses bytes mesh.OutOfMemory) (one_outcome : (bytes : List ℕ) (a b : Outcome) → Lexes bytes a → Lexes bytes b → a ≡ b) (one_depth : (bytes : List ℕ) (a b : ProgramTree) (n m : ℕ) → Deep bytes a n → Deep bytes b m → n ≡ m) (one_shape : (bytes : List ℕ) (a b : ProgramTree) (n : ℕ) → Reads bytes a → Deep bytes b n → ⊥) (walk_finds : WalkFinds) (obeys : ObeysUnlessBroken) (one_breach : OneRefusal) (suits : SourcesSuit) (planned : PlansAnswered) (chained : ChainsAnswered) (within : OptionsAreWithin) where
+module _ (some_lexed : (bytes : List ℕ) → (o : Outcome) × Lexes bytes o)
+    (some_types : (p : ProgramTree) → (o : names.Outcome) × Resolves p o)
+    (types_causes : (p : ProgramTree) → ¬ Resolves p (Err types.OutOfMemory))
+    (some_kernels : (bytes : List ℕ) (p : ProgramTree) → Reads bytes p → length bytes < 2 ^ 63 → (r : Resolved)
+    × (resolved_of r ≡ resolved p)) (deep : (bytes : List ℕ) (p : ProgramTree) (n : ℕ) → Deep bytes p n
+    → IsFar bytes (place_at p.places bytes n)) (causes : (p : ProgramTree) (types : Resolved) (es : List Named)
+    → bound p types es ≢ Err bind.OutOfMemory) (some_read : (bytes : List ℕ) → (o : Read) × Spelled bytes o)
+    (mesh_causes : (bytes : List ℕ) → ¬ Refuses bytes mesh.OutOfMemory)
+    (one_outcome : (bytes : List ℕ) (a b : Outcome) → Lexes bytes a → Lexes bytes b → a ≡ b)
+    (one_depth : (bytes : List ℕ) (a b : ProgramTree) (n m : ℕ) → Deep bytes a n → Deep bytes b m → n ≡ m)
+    (one_shape : (bytes : List ℕ) (a b : ProgramTree) (n : ℕ) → Reads bytes a → Deep bytes b n → ⊥) (walk_finds : WalkFinds)
+    (obeys : ObeysUnlessBroken) (one_breach : OneRefusal) (suits : SourcesSuit) (planned : PlansAnswered) (chained : ChainsAnswered)
+    (within : OptionsAreWithin) where
   -- bytes that the lexer refuses have no tree
   unlexed : (bytes : List ℕ) (l : LexRefusal) → Lexes bytes (Err l) → IsUnread bytes (source.Lex l)
   unlexed bytes l h = record {
@@ -89,7 +101,8 @@ module _ (some_lexed : (bytes : List ℕ) → (o : Outcome) × Lexes bytes o) (s
       no_tokens tokens k = let e = one_outcome bytes (Err l) (Ok tokens) h k in let bad : ⊥ = cc in bad
 
   -- bytes that have tokens, where no tree has these
-  treeless : (bytes : List ℕ) (tokens : List Token) → Lexes bytes (Ok tokens) → ((p : ProgramTree) → ¬ Reads bytes p) → ((p : ProgramTree) (n : ℕ) → ¬ Deep bytes p n) → IsUnread bytes (source.Syntax (place_at (places tokens) bytes 0))
+  treeless : (bytes : List ℕ) (tokens : List Token) → Lexes bytes (Ok tokens) → ((p : ProgramTree) → ¬ Reads bytes p)
+      → ((p : ProgramTree) (n : ℕ) → ¬ Deep bytes p n) → IsUnread bytes (source.Syntax (place_at (places tokens) bytes 0))
   treeless bytes tokens h reads deep = record {
     none = reads;
     deep = λ p n d. absurd (deep p n d);

@@ -131,7 +131,9 @@ module _ (places : List Pos) (s : Scope) (h : ScopeNum s) where
   resolved_num (tree.Absolute at x) f = resolved_num x f
 
   pub static_num : (e : ExprTree) → HasNumbers e → Gives (λ (a : Asked). Nums a.value) (judged_static places s e)
-  static_num e f = gives_unless (λ (a : Asked). Nums a.value) (found_if places (not (is_static (resolved places s e))) (first_token e) refusal.ControlNotStatic) (asked places s e) (λ none. resolved_num e f)
+  static_num e f = gives_unless (λ (a : Asked). Nums a.value)
+      (found_if places (not (is_static (resolved places s e))) (first_token e) refusal.ControlNotStatic) (asked places s e)
+      (λ none. resolved_num e f)
 
   known_num : (first : ℕ) (v : Value) → IsNumber v → Gives Num (known places first v)
   known_num first (Ok z) f = f

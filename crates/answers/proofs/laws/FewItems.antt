@@ -58,14 +58,17 @@ walked_short : (n : ℕ) (r : Resolved) (w : Walked) → WalkedFew n w → Gives
 walked_short n r w h =
     gives_then (λ (u : UnrolledValue). length u.items ≤ max_trace) (IsShort n) (trace w.declared.mesh (happens w)) (λ u. Ok (finished r w.declared u))
     (gives_then (λ (u : UnrolledValue). length u.items ≤ max_trace) (λ (u : UnrolledValue). length u.items ≤ max_trace) (unrolled max_trace (happens w)) _ (unrolled_few max_trace (happens w))
-    (λ u f. gives_then (λ v. Unit {0}) (λ (u : UnrolledValue). length u.items ≤ max_trace) (within_weight (weight_of_all w.declared.mesh u.items)) (λ v. Ok u) (gives_any (within_weight (weight_of_all w.declared.mesh u.items))) (λ v t. f)))
+    (λ u f. gives_then (λ v. Unit {0}) (λ (u : UnrolledValue). length u.items ≤ max_trace)
+        (within_weight (weight_of_all w.declared.mesh u.items)) (λ v. Ok u)
+        (gives_any (within_weight (weight_of_all w.declared.mesh u.items))) (λ v t. f)))
     (λ u f. let e = told_same u.values w.declared.vars in record { trace = f; declared = omega (arith, h, e) })
 
 text_short : (p : ProgramTree) (r : Resolved) (es : List Named) → Gives (IsShort (length (tops p.tops) + length (hosts 1 p.main.body))) (bound p r es)
 text_short p r es =
     let n = length (tops p.tops) in
     gives_then (WalkedFew (n + length (hosts 1 p.main.body))) (IsShort (n + length (hosts 1 p.main.body))) (text p r es) (unrolled_text r)
-    (gives_then (Few n) (WalkedFew (n + length (hosts 1 p.main.body))) (judged_tops p.places r.consts.items es nothing_declared p.tops) (λ k. judged_hosts p.places r.consts.items es (quiet k) outermost p.main.body)
+    (gives_then (Few n) (WalkedFew (n + length (hosts 1 p.main.body))) (judged_tops p.places r.consts.items es nothing_declared p.tops)
+        (λ k. judged_hosts p.places r.consts.items es (quiet k) outermost p.main.body)
     (gives_more (0 + n) n (judged_tops p.places r.consts.items es nothing_declared p.tops) (omega arith) (tops_few p.places r.consts.items es 0 nothing_declared p.tops (omega arith)))
     (λ k i. hosts_few p.places r.consts.items es n 1 (quiet k) outermost p.main.body i))
     (λ w i. walked_short (n + length (hosts 1 p.main.body)) r w i)
@@ -73,7 +76,8 @@ text_short p r es =
 -- the tokens of the file's declarations and of `main`'s statements are among those of the source
 program_long : (p : ProgramTree) → length (tops p.tops) + length (hosts 1 p.main.body) ≤ length (program p)
 program_long p =
-    let last = named_word 0 word.OpExit p.main.exit_at ∷ sign_at 0 sign.LeftParen ∷ sign_at 0 sign.RightParen ∷ sign_at 0 sign.Semicolon ∷ (return_marks p.main.returned ++ sign_at 0 sign.RightBrace ∷ []) in
+    let last = named_word 0 word.OpExit p.main.exit_at ∷ sign_at 0 sign.LeftParen ∷ sign_at 0 sign.RightParen ∷ sign_at 0 sign.Semicolon
+        ∷ (return_marks p.main.returned ++ sign_at 0 sign.RightBrace ∷ []) in
     let rest = sign_at 0 sign.RightParen ∷ sign_at 0 sign.LeftBrace ∷ (hosts 1 p.main.body ++ last) in
     let a = length-append (tops p.tops) (main p.main) in
     let b = length-append (argv_marks p.main.argv_has_brackets) rest in
@@ -82,7 +86,8 @@ program_long p =
 
 -- ---- heads
 
-flag_vars : (b : Bool) (x : ItemValue) (xs ys : List ItemValue) (s : List ℤ) (zs : List (List ℤ)) → length xs ≡ length zs → length ys ≡ length zs → length (if b then xs else x ∷ ys) ≡ length (if b then zs else s ∷ zs)
+flag_vars : (b : Bool) (x : ItemValue) (xs ys : List ItemValue) (s : List ℤ) (zs : List (List ℤ)) → length xs ≡ length zs
+    → length ys ≡ length zs → length (if b then xs else x ∷ ys) ≡ length (if b then zs else s ∷ zs)
 flag_vars true x xs ys s zs e f = e
 flag_vars false x xs ys s zs e f = ap suc f
 

@@ -87,8 +87,11 @@ same_owners : (d e : Distribution) → distribution_value d ≡ distribution_val
 unfolding distribution_value
 same_owners d e h = ap (λ (v : DistributionValue). v.owners) h
 
-module _ (on_cells : RunsAnswerOnCells) (programs_are_one : ProgramsAreOne) (dumps_are_one : DumpsAreOne) (plans : PlanLaws) (one_plan : PlansAreOne) (schedules : ScheduleLaws) (one_numbers : NumbersAreOne) (one_owners : OwnersAreOne) (one_distribution : DistributionsAreOne) (one_plan_text : PlanTextsAreOne) (states : StateLaws) where
-  module _ (j : PlanJob) (o : Options) (files : Files) (some : 0 < o.ranks) (b : BoundValue) (ks : List RKernel) (same : map rkernel_of b.kernels ≡ map rkernel_of ks) (fits : Fits b) (others : Fits (with_kernels b ks)) (first : ℕ) where
+module _ (on_cells : RunsAnswerOnCells) (programs_are_one : ProgramsAreOne) (dumps_are_one : DumpsAreOne) (plans : PlanLaws)
+    (one_plan : PlansAreOne) (schedules : ScheduleLaws) (one_numbers : NumbersAreOne) (one_owners : OwnersAreOne)
+    (one_distribution : DistributionsAreOne) (one_plan_text : PlanTextsAreOne) (states : StateLaws) where
+  module _ (j : PlanJob) (o : Options) (files : Files) (some : 0 < o.ranks) (b : BoundValue) (ks : List RKernel)
+      (same : map rkernel_of b.kernels ≡ map rkernel_of ks) (fits : Fits b) (others : Fits (with_kernels b ks)) (first : ℕ) where
     abbrev c : BoundValue
     c = with_kernels b ks
 
@@ -140,7 +143,8 @@ module _ (on_cells : RunsAnswerOnCells) (programs_are_one : ProgramsAreOne) (dum
 
         -- ---- what the job answers
 
-        dumps_same : (steps : List Step) → dump_of o.dumps b p.distribution.owners p.distribution.ranks.items p.plan steps ≡ dump_of o.dumps c q.distribution.owners q.distribution.ranks.items q.plan steps
+        dumps_same : (steps : List Step) → dump_of o.dumps b p.distribution.owners p.distribution.ranks.items p.plan steps ≡ dump_of o.dumps
+            c q.distribution.owners q.distribution.ranks.items q.plan steps
         dumps_same steps =
             let e = distributions_same p.distribution q.distribution h.0 k.0 in
             dumps_are_one b ks p.distribution.owners q.distribution.owners p.distribution.ranks.items q.distribution.ranks.items p.plan q.plan (record {
@@ -168,7 +172,8 @@ module _ (on_cells : RunsAnswerOnCells) (programs_are_one : ProgramsAreOne) (dum
 
         steps_agree : (order : Order) → (x y : Answer) → FromOrder b p order x → FromOrder c q order y → x ≡ y
         steps_agree order x y f g =
-            given_alike (StepsOf (outline_of b p) (group_of o) order) (λ steps x. x ≡ planned_answer j o.dumps (from b) p steps) (λ steps x. x ≡ planned_answer j o.dumps (from c) q steps) (λ x y. x ≡ y)
+            given_alike (StepsOf (outline_of b p) (group_of o) order) (λ steps x. x ≡ planned_answer j o.dumps (from b) p steps)
+                (λ steps x. x ≡ planned_answer j o.dumps (from c) q steps) (λ x y. x ≡ y)
             (λ r s h k. ap refused (one.refusals r s h k)) one.apart one.values
             (λ steps l x y e f. e ∙ answers steps ∙ sym f)
             x y f (subst (λ z. given (StepsOf z (group_of o) order) (λ steps x. x ≡ planned_answer j o.dumps (from c) q steps) y) (sym outlines_same) g)
@@ -205,7 +210,8 @@ module _ (on_cells : RunsAnswerOnCells) (programs_are_one : ProgramsAreOne) (dum
     module _ (n m : Perms) (numbered : SamePerms n m) (perms : ArePerms b.mesh n) where
       owners_agree : (parts : Parts) (x y : Answer) → FromOwners b n parts x → FromOwners c m parts y → x ≡ y
       owners_agree parts =
-          given_both (OwnersOf o.ranks b parts) (OwnersOf o.ranks c parts) (λ u. given (ColouringOf o.blocks files) (FromColouring b u n)) (λ u. given (ColouringOf o.blocks files) (FromColouring c u m)) (λ x y. x ≡ y)
+          given_both (OwnersOf o.ranks b parts) (OwnersOf o.ranks c parts) (λ u. given (ColouringOf o.blocks files) (FromColouring b u n))
+              (λ u. given (ColouringOf o.blocks files) (FromColouring c u m)) (λ x y. x ≡ y)
           (λ r s h k. ap refused (owners_once h.0 r s h.2 (subst (λ e. SaysOwners e s) (sym (both (Err h.0) (Err k.0) h.1 k.1)) k.2)))
           (λ r v h k. both (Err h.0) (Ok v) h.1 k)
           (λ u s h k. both (Ok u) (Err k.0) h k.1)
@@ -222,7 +228,8 @@ module _ (on_cells : RunsAnswerOnCells) (programs_are_one : ProgramsAreOne) (dum
 
     -- ---- new numbers
 
-    numbers_agree : (x y : Answer) → given (NumbersOf o b) (λ n. given (PartsOf o.parting files) (FromOwners b n)) x → given (NumbersOf o c) (λ n. given (PartsOf o.parting files) (FromOwners c n)) y → x ≡ y
+    numbers_agree : (x y : Answer) → given (NumbersOf o b) (λ n. given (PartsOf o.parting files) (FromOwners b n)) x
+        → given (NumbersOf o c) (λ n. given (PartsOf o.parting files) (FromOwners c n)) y → x ≡ y
     numbers_agree =
         given_both (NumbersOf o b) (NumbersOf o c) (λ n. given (PartsOf o.parting files) (FromOwners b n)) (λ n. given (PartsOf o.parting files) (FromOwners c n)) (λ x y. x ≡ y)
         (λ r s h k. ap refused (numbers_once h.0 r s h.2 (subst (λ e. SaysNumbers e s) (sym (both (Err h.0) (Err k.0) h.1 k.1)) k.2)))

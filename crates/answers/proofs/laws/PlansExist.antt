@@ -69,7 +69,9 @@ order_exists (Written name) files none = held_exists ScheduleBytes name (files n
 
 -- ---- new numbers and owners
 
-module _ (some_numbers : NumbersExist) (some_owners : OwnersExist) (outcomes_fit : OutcomesFit) (narrow_fit : NarrowMeshesFitMemory) (some_distribution : DistributionsExist) (some_plan : PlansExist) (some_outcome : SomeOutcome) (causes : (g : MeshValue) (ranks : ℕ) (bytes : List ℕ) → ¬ Refuses g ranks bytes part.OutOfMemory) (steps_exist : SchedulesExist) where
+module _ (some_numbers : NumbersExist) (some_owners : OwnersExist) (outcomes_fit : OutcomesFit) (narrow_fit : NarrowMeshesFitMemory)
+    (some_distribution : DistributionsExist) (some_plan : PlansExist) (some_outcome : SomeOutcome)
+    (causes : (g : MeshValue) (ranks : ℕ) (bytes : List ℕ) → ¬ Refuses g ranks bytes part.OutOfMemory) (steps_exist : SchedulesExist) where
   numbers_exist : (o : Options) (b : BoundValue) → IsMesh b.mesh → ¬ ((r : Result Perms Refusal) → ¬ NumbersOf o b r)
   numbers_exist o b mesh none = let n = some_numbers b.mesh o.renumber mesh in by_outcome n.0 n.1
     where
@@ -148,7 +150,8 @@ module _ (some_numbers : NumbersExist) (some_owners : OwnersExist) (outcomes_fit
       given_one _ _ (order_exists o.schedule files) (λ order _.
       given_one _ _ (steps_exist (outline_of c.program p) (group_of o) order) (λ steps _ last. last _ refl))))))))
 
-  pub planned_exist : HeadsFit → TailsFit → SaysSomething → (j : PlanJob) (o : Options) (files : Files) → AreWithin o → (b : BoundValue) → SuitsInParts b → ¬ ((a : Answer) → ¬ PlannedAnswers j o files b a)
+  pub planned_exist : HeadsFit → TailsFit → SaysSomething → (j : PlanJob) (o : Options) (files : Files) → AreWithin o → (b : BoundValue)
+      → SuitsInParts b → ¬ ((a : Answer) → ¬ PlannedAnswers j o files b a)
   planned_exist heads_fit tails_fit some_state j o files within b suits =
       given_with suits.suits.fits
       (given_one _ _ (cut_exists o.stretch files) (λ cut _.

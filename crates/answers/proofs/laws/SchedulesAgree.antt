@@ -88,7 +88,9 @@ module _ (o : Outline) where
 
 -- ---- accepted steps
 
-module _ (steps_decide : (o : Outline) (s : Step) → (is_step o s ≡ true) ↔ IsStep o s) (missing_is : (o : Outline) (m : Step → Bool) (s t : Step) → missing o m s ≡ Some t → IsStep o t × Earlier o t s × (m t ≡ false)) (left_is : (o : Outline) (m : Step → Bool) (t : Step) → left_over o m ≡ Some t → IsStep o t × (m t ≡ false)) where
+module _ (steps_decide : (o : Outline) (s : Step) → (is_step o s ≡ true) ↔ IsStep o s)
+    (missing_is : (o : Outline) (m : Step → Bool) (s t : Step) → missing o m s ≡ Some t → IsStep o t × Earlier o t s × (m t ≡ false))
+    (left_is : (o : Outline) (m : Step → Bool) (t : Step) → left_over o m ≡ Some t → IsStep o t × (m t ≡ false)) where
   module _ (o : Outline) where
     -- no step of an accepted list is refused in its turn
     taken_well : (pre : List Step) (s : Step) (post : List Step) → Accepted o (pre ++ s ∷ post) → judged o (has pre) s ≡ Ok tt
@@ -118,7 +120,9 @@ module _ (steps_decide : (o : Outline) (s : Step) → (is_step o s ≡ true) ↔
 
   -- ---- all
 
-  module _ (one_read : (bytes : List ℕ) (a b : Read) → Reads bytes a → Reads bytes b → a ≡ b) (drawn_once : (o : Outline) (g seed : ℕ) (l n : List Step) → IsDrawn o g seed l → IsDrawn o g seed n → l ≡ n) (o : Outline) (g : ℕ) where
+  module _ (one_read : (bytes : List ℕ) (a b : Read) → Reads bytes a → Reads bytes b → a ≡ b)
+      (drawn_once : (o : Outline) (g seed : ℕ) (l n : List Step) → IsDrawn o g seed l → IsDrawn o g seed n → l ≡ n) (o : Outline) (g : ℕ)
+      where
     same_lines : (bytes : List ℕ) (ls ns : List Line) → Reads bytes (Ok ls) → Reads bytes (Ok ns) → ls ≡ ns
     same_lines bytes ls ns h k = let e : ◌≡◌ {A = Read} (Ok ls) (Ok ns) = one_read bytes (Ok ls) (Ok ns) h k in let same : ls ≡ ns = cc in same
 

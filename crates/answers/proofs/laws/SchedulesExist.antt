@@ -110,7 +110,8 @@ module _ (taken_whole : (o : Outline) (m n : Step → Bool) (l : List Step) → 
     accepted_or_refused : Accepted o (steps_in ls) ⊎ ((r : Refusal) × IsStepRefused o ls end r)
     accepted_or_refused = by_walk (taken_from [] ls refl none_taken)
       where
-        by_left : (t : Option Step) → left_over o (has (steps_in ls)) ≡ t → TakenAll o (has []) (steps_in ls) (has (steps_in ls)) → TakenWell (steps_in ls) → Accepted o (steps_in ls) ⊎ ((r : Refusal) × IsStepRefused o ls end r)
+        by_left : (t : Option Step) → left_over o (has (steps_in ls)) ≡ t → TakenAll o (has []) (steps_in ls) (has (steps_in ls))
+            → TakenWell (steps_in ls) → Accepted o (steps_in ls) ⊎ ((r : Refusal) × IsStepRefused o ls end r)
         by_left None is all h = inl ((taken_whole o (has []) (has (steps_in ls)) (steps_in ls) (λ t s. refl) all).1 is)
         by_left (Some t) is all h = inr (LeftStep end t, left_at_end t is h)
 
@@ -120,7 +121,9 @@ module _ (taken_whole : (o : Outline) (m n : Step → Bool) (l : List Step) → 
 
   -- ---- all
 
-  module _ (drawn : (o : Outline) (g seed : ℕ) → (l : List Step) × IsDrawn o g seed l) (some_read : (bytes : List ℕ) → (r : Read) × Reads bytes r) (causes : (bytes : List ℕ) → ¬ Refuses bytes text.OutOfMemory) (g : ℕ) where
+  module _ (drawn : (o : Outline) (g seed : ℕ) → (l : List Step) × IsDrawn o g seed l)
+      (some_read : (bytes : List ℕ) → (r : Read) × Reads bytes r) (causes : (bytes : List ℕ) → ¬ Refuses bytes text.OutOfMemory) (g : ℕ)
+      where
     texts_exist : (bytes : List ℕ) → ¬ ((r : Result (List Step) Refusal) → ¬ StepsOf o g (ByText bytes) r)
     texts_exist bytes none = by_read (some_read bytes).0 (some_read bytes).1
       where

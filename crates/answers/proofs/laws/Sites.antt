@@ -48,7 +48,8 @@ none_found : (f : SiteValue → Option Breach) (P : SiteValue → Type 0) → ((
 none_found f P e [] h = refl
 none_found f P e (x ∷ xs) h = rw (e x (all_first P x xs h)) (none_found f P e xs (all_rest P x xs h))
 
-some_found : (f : SiteValue → Option Breach) (P : SiteValue → Type 0) → ((x : SiteValue) → P x → f x ≡ None) → (xs ys : List SiteValue) (y : SiteValue) (b : Breach) → All P xs → f y ≡ Some b → first_found f (xs ++ y ∷ ys) ≡ Some b
+some_found : (f : SiteValue → Option Breach) (P : SiteValue → Type 0) → ((x : SiteValue) → P x → f x ≡ None)
+    → (xs ys : List SiteValue) (y : SiteValue) (b : Breach) → All P xs → f y ≡ Some b → first_found f (xs ++ y ∷ ys) ≡ Some b
 some_found f P e [] ys y b h is = rw is refl
 some_found f P e (x ∷ xs) ys y b h is = rw (e x (all_first P x xs h)) (some_found f P e xs ys y b (all_rest P x xs h) is)
 
@@ -108,23 +109,30 @@ module _ (walk_finds : WalkFinds) (obeys : ObeysUnlessBroken) (one : OneRefusal)
   -- ---- the first loop that is refused is there, or all are accepted
 
   site_obeys : (b : BoundValue) (site : SiteValue) → site_found b site ≡ None → SiteObeys b site
-  site_obeys b site none k is = subst (λ o. IsFound o k (modes_of b site)) (let e : found_by (kernel_at b.kernels site.kernel) (modes_of b site) ≡ None = none in rw is at e) (walk_finds k (modes_of b site))
+  site_obeys b site none k is = subst (λ o. IsFound o k (modes_of b site))
+      (let e : found_by (kernel_at b.kernels site.kernel) (modes_of b site) ≡ None = none in rw is at e) (walk_finds k (modes_of b site))
 
   site_refuses : (b : BoundValue) (site : SiteValue) (f : Breach) → site_found b site ≡ Some f → SiteRefuses b site f.rule f.at
   site_refuses b site f found = by_kernel (kernel_at b.kernels site.kernel) refl
     where
       by_kernel : (o : Option RKernel) → kernel_at b.kernels site.kernel ≡ o → SiteRefuses b site f.rule f.at
       by_kernel None is = absurd (let e : found_by (kernel_at b.kernels site.kernel) (modes_of b site) ≡ Some f = found in let e' : None ≡ Some f = rw is at e in let bad : ⊥ = cc in bad)
-      by_kernel (Some k) is = (k, is, subst (λ o. IsFound o k (modes_of b site)) (let e : found_by (kernel_at b.kernels site.kernel) (modes_of b site) ≡ Some f = found in rw is at e) (walk_finds k (modes_of b site)))
+      by_kernel (Some k) is = (k, is, subst (λ o. IsFound o k (modes_of b site))
+          (let e : found_by (kernel_at b.kernels site.kernel) (modes_of b site) ≡ Some f = found in rw is at e)
+          (walk_finds k (modes_of b site)))
 
   -- among the loops that follow those that are accepted
   accesses_from : (b : BoundValue) (front rest : List SiteValue) → b.sites ≡ front ++ rest → All (SiteObeys b) front → ¬ ((r : Result (Unit {0}) Refusal) → ¬ AccessesAre b r)
   accesses_from b front [] whole h none = none (Ok tt) (rw (whole ∙ append-nil front) h)
-  accesses_from b front (x ∷ xs) whole h none = by_found (site_found b x) refl (λ obeys_x. accesses_from b (front ++ x ∷ []) xs (whole ∙ sym (append_assoc front (x ∷ []) xs)) (all_end (SiteObeys b) front x h obeys_x) none)
+  accesses_from b front (x ∷ xs) whole h none = by_found (site_found b x) refl
+      (λ obeys_x. accesses_from b (front ++ x ∷ []) xs (whole ∙ sym (append_assoc front (x ∷ []) xs))
+      (all_end (SiteObeys b) front x h obeys_x) none)
     where
       by_found : (o : Option Breach) → site_found b x ≡ o → (SiteObeys b x → ⊥) → ⊥
       by_found None is on = on (site_obeys b x is)
-      by_found (Some f) is on = none (Err (BadAccess (number_of f.rule) f.at)) (record { earlier = front; site = x; later = xs; whole = whole; before = h; rule = f.rule; at = f.at; refuses = site_refuses b x f is; says = refl })
+      by_found (Some f) is on = none (Err (BadAccess (number_of f.rule) f.at))
+          (record { earlier = front; site = x; later = xs; whole = whole; before = h; rule = f.rule; at = f.at; refuses =
+          site_refuses b x f is; says = refl })
 
   pub accesses_exist : (b : BoundValue) → ¬ ((r : Result (Unit {0}) Refusal) → ¬ AccessesAre b r)
   accesses_exist b = accesses_from b [] b.sites refl (all_none (SiteObeys b))

@@ -109,7 +109,8 @@ module _ (names : List (List ℕ)) (files : Files) where
       given_other (StepsOf (outline_of c.program p) (group_of o) order) (λ steps x. x ≡ planned_answer j o.dumps c p steps)
       (λ r h. steps_other (outline_of c.program p) (group_of o) order r h) (plan_job_sound j o.dumps c p))))))) a h.1
 
-  planned_sound : (j : PlanJob) (o : Options) → Has names (names_before o.stretch) → Has names (names_by o.parting) → Has names (names_in_blocks o.blocks) → Has names (names_at o.schedule) → (b : BoundValue) (a : Answer)
+  planned_sound : (j : PlanJob) (o : Options) → Has names (names_before o.stretch) → Has names (names_by o.parting)
+      → Has names (names_in_blocks o.blocks) → Has names (names_at o.schedule) → (b : BoundValue) (a : Answer)
       → PlannedAnswers j o files b a
       → IsSound names files a
   planned_sound j o has_state has_part has_blocks has_order b a h =

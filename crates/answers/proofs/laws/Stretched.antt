@@ -207,7 +207,9 @@ runs on_cells source mesh stretch files a r =
 
 -- ---- one program
 
-module _ (one_tree : (bytes : List ℕ) (a b : ProgramTree) → Reads bytes a → Reads bytes b → a ≡ b) (one_resolved : (p : ProgramTree) (a b : names.Outcome) → Resolves p a → Resolves p b → a ≡ b) (one_read : (bytes : List ℕ) (a b : Read) → Spelled bytes a → Spelled bytes b → a ≡ b) where
+module _ (one_tree : (bytes : List ℕ) (a b : ProgramTree) → Reads bytes a → Reads bytes b → a ≡ b)
+    (one_resolved : (p : ProgramTree) (a b : names.Outcome) → Resolves p a → Resolves p b → a ≡ b)
+    (one_read : (bytes : List ℕ) (a b : Read) → Spelled bytes a → Spelled bytes b → a ≡ b) where
   same_entries : (text : List ℕ) (es fs : List Named) → EntriesAre text (Ok es) → EntriesAre text (Ok fs) → es ≡ fs
   same_entries text es fs h k = let e = one_read text (Ok es) (Ok fs) h k in cc
 

@@ -55,16 +55,19 @@ choose_num : (q : Bool) (f g : Later) → EventsNum (f tt) → EventsNum (g tt) 
 choose_num true f g h k = h
 choose_num false f g h k = k
 
-turns_num : (limit : ℤ → Option ℤ) (body : ℤ → List Event) (p : Pos) → ((j : ℤ) → Num j → IfSome (limit j) Num) → ((j : ℤ) → Num j → EventsNum (body j)) → (left : ℕ) (i : ℤ) → Num i → EventsNum (turns limit body p left i)
+turns_num : (limit : ℤ → Option ℤ) (body : ℤ → List Event) (p : Pos) → ((j : ℤ) → Num j → IfSome (limit j) Num)
+    → ((j : ℤ) → Num j → EventsNum (body j)) → (left : ℕ) (i : ℤ) → Num i → EventsNum (turns limit body p left i)
 unfolding turns
 turns_num limit body p hb he zero i f = tt
 turns_num limit body p hb he (suc left) i f = pick (λ g. turns_num limit body p hb he left (i +ℤ pos 1) g) (limit i) (hb i f)
   where
-    go : (past : ℤ) → (Num (i +ℤ pos 1) → EventsNum (turns limit body p left (i +ℤ pos 1))) → Num past → (q : Bool) → int_lt i past ≡ q → EventsNum (choose q (λ u. Turn ∷ (body i ++ turns limit body p left (i +ℤ pos 1))) nothing)
+    go : (past : ℤ) → (Num (i +ℤ pos 1) → EventsNum (turns limit body p left (i +ℤ pos 1))) → Num past → (q : Bool) → int_lt i past ≡ q
+        → EventsNum (choose q (λ u. Turn ∷ (body i ++ turns limit body p left (i +ℤ pos 1))) nothing)
     go past rest g true e = events_then (body i) (turns limit body p left (i +ℤ pos 1)) (he i f) (rest (next_num i past f g e))
     go past rest g false e = tt
 
-    pick : (Num (i +ℤ pos 1) → EventsNum (turns limit body p left (i +ℤ pos 1))) → (o : Option ℤ) → IfSome o Num → EventsNum (counts o i p (λ u. Turn ∷ (body i ++ turns limit body p left (i +ℤ pos 1))))
+    pick : (Num (i +ℤ pos 1) → EventsNum (turns limit body p left (i +ℤ pos 1))) → (o : Option ℤ) → IfSome o Num
+        → EventsNum (counts o i p (λ u. Turn ∷ (body i ++ turns limit body p left (i +ℤ pos 1))))
     pick rest None g = tt
     pick rest (Some past) g = go past rest g (int_lt i past) refl
 

@@ -24,14 +24,16 @@ next-apart a d g false q r h x y = grind arith
 
 before-trans : (f g h : Found) → is_before f g ≡ true → is_before g h ≡ true → is_before f h ≡ true
 before-trans f g h p q =
-    next-trans (turn_number f.turn) (turn_number g.turn) (turn_number h.turn) _ _ _ (next-trans f.token g.token h.token _ _ _ (λ x y. last (number_of f.refusal) (number_of g.refusal) (number_of h.refusal) x y)) p q
+    next-trans (turn_number f.turn) (turn_number g.turn) (turn_number h.turn) _ _ _
+        (next-trans f.token g.token h.token _ _ _ (λ x y. last (number_of f.refusal) (number_of g.refusal) (number_of h.refusal) x y)) p q
   where
     last : (a b c : ℕ) → nat_lt a b ≡ true → nat_lt b c ≡ true → nat_lt a c ≡ true
     last a b c x y = grind arith
 
 before-apart : (f g h : Found) → is_before f h ≡ true → is_before g h ≡ false → is_before f g ≡ true
 before-apart f g h p q =
-    next-apart (turn_number f.turn) (turn_number g.turn) (turn_number h.turn) _ _ _ (next-apart f.token g.token h.token _ _ _ (λ x y. last (number_of f.refusal) (number_of g.refusal) (number_of h.refusal) x y)) p q
+    next-apart (turn_number f.turn) (turn_number g.turn) (turn_number h.turn) _ _ _
+        (next-apart f.token g.token h.token _ _ _ (λ x y. last (number_of f.refusal) (number_of g.refusal) (number_of h.refusal) x y)) p q
   where
     last : (a b c : ℕ) → nat_lt a c ≡ true → nat_lt b c ≡ false → nat_lt a b ≡ true
     last a b c x y = grind arith
@@ -89,7 +91,8 @@ below_head g f r gs (x ∷ xs) later b w h =
     before-trans r g f rg b
 
 -- one more that doesn't count before the head, behind the head
-behind_head : (f g r : Found) (gs earlier later : List Found) → is_before g f ≡ false → f ∷ gs ≡ earlier ++ r ∷ later → All (λ x. is_before r x ≡ true) earlier → All (λ x. is_before x r ≡ false) later → IsFirst (f ∷ g ∷ gs) r
+behind_head : (f g r : Found) (gs earlier later : List Found) → is_before g f ≡ false → f ∷ gs ≡ earlier ++ r ∷ later
+    → All (λ x. is_before r x ≡ true) earlier → All (λ x. is_before x r ≡ false) later → IsFirst (f ∷ g ∷ gs) r
 behind_head f g r gs [] later b w h k = record {
   earlier = [];
   later = g ∷ later;
@@ -109,7 +112,8 @@ behind_head f g r gs (x ∷ xs) later b w h k = record {
   after = k;
 }
 
-by_test : (f g : Found) (gs : List Found) (b : Bool) → is_before g f ≡ b → IsFirst (g ∷ gs) (first_from g gs) → IsFirst (f ∷ gs) (first_from f gs) → IsFirst (f ∷ g ∷ gs) (first_from (if b then g else f) gs)
+by_test : (f g : Found) (gs : List Found) (b : Bool) → is_before g f ≡ b → IsFirst (g ∷ gs) (first_from g gs)
+    → IsFirst (f ∷ gs) (first_from f gs) → IsFirst (f ∷ g ∷ gs) (first_from (if b then g else f) gs)
 by_test f g gs true e hg hf = in_front f (first_from g gs) (g ∷ gs) (below_head g f (first_from g gs) gs hg.earlier hg.later e hg.whole hg.before) hg
 by_test f g gs false e hg hf = behind_head f g (first_from f gs) gs hf.earlier hf.later e hf.whole hf.before hf.after
 
@@ -131,7 +135,8 @@ at_later P (y ∷ ys) g zs h = at_later P ys g zs (All-tail P y (ys ++ g ∷ zs)
 apart : (f g : Found) → is_before g f ≡ true → is_before g f ≡ false → f ≡ g
 apart f g p q = grind arith
 
-split : (f g : Found) (xs as_ ys bs : List Found) → xs ++ f ∷ as_ ≡ ys ++ g ∷ bs → All (λ x. is_before f x ≡ true) xs → All (λ x. is_before x f ≡ false) as_ → All (λ x. is_before g x ≡ true) ys → All (λ x. is_before x g ≡ false) bs → f ≡ g
+split : (f g : Found) (xs as_ ys bs : List Found) → xs ++ f ∷ as_ ≡ ys ++ g ∷ bs → All (λ x. is_before f x ≡ true) xs
+    → All (λ x. is_before x f ≡ false) as_ → All (λ x. is_before g x ≡ true) ys → All (λ x. is_before x g ≡ false) bs → f ≡ g
 split f g [] as_ [] bs w p q r s = same_head f g as_ bs w
 split f g [] as_ (y ∷ ys) bs w p q r s =
     let e : f ≡ y = same_head f y as_ (ys ++ g ∷ bs) w in
@@ -140,7 +145,8 @@ split f g [] as_ (y ∷ ys) bs w p q r s =
 split f g (x ∷ xs) as_ [] bs w p q r s =
     let e : x ≡ g = same_head x g (xs ++ f ∷ as_) bs w in
     let t : xs ++ f ∷ as_ ≡ bs = same_tail x g (xs ++ f ∷ as_) bs w in
-    sym (apart g f (subst (λ y. is_before f y ≡ true) e (All-head (λ y. is_before f y ≡ true) x xs p)) (at_later (λ y. is_before y g ≡ false) xs f as_ (subst (All (λ y. is_before y g ≡ false)) (sym t) s)))
+    sym (apart g f (subst (λ y. is_before f y ≡ true) e (All-head (λ y. is_before f y ≡ true) x xs p))
+        (at_later (λ y. is_before y g ≡ false) xs f as_ (subst (All (λ y. is_before y g ≡ false)) (sym t) s)))
 split f g (x ∷ xs) as_ (y ∷ ys) bs w p q r s =
     split f g xs as_ ys bs (same_tail x y (xs ++ f ∷ as_) (ys ++ g ∷ bs) w) (All-tail (λ z. is_before f z ≡ true) x xs p) q (All-tail (λ z. is_before g z ≡ true) y ys r) s
 

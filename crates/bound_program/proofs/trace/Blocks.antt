@@ -27,7 +27,9 @@ step_of_block v = step_of-Block v
 pub block_is : (s : Step) (v : Vec Step Global) (items : List Step) → s ≡ Block v → items ≡ v.items → step_of s ≡ steps.Block (steps_of items)
 block_is s v items p q = ap step_of p ∙ step_of-Block v ∙ ap (λ z. steps.Block (steps_of z)) (sym q)
 
-pub block_go : (sites : List SiteValue) (told : List ℤ) (items : List Step) (k : ℕ) (x : Step) → k < length items → x ≡ get_or items k x → all_events sites told (steps_of (drop k items)) ≡ events sites told (step_of x) ++ all_events sites (after told (step_of x)) (steps_of (drop (k + 1) items))
+pub block_go : (sites : List SiteValue) (told : List ℤ) (items : List Step) (k : ℕ) (x : Step) → k < length items → x ≡ get_or items k x
+    → all_events sites told (steps_of (drop k items)) ≡ events sites told (step_of x) ++ all_events sites (after told (step_of x))
+    (steps_of (drop (k + 1) items))
 block_go sites told items k x h e = rw (drop_here items k x h e) refl
 
 pub block_end : (sites : List SiteValue) (told : List ℤ) (items : List Step) (k : ℕ) → length items ≤ k → all_events sites told (steps_of (drop k items)) ≡ []

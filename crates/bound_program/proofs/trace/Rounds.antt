@@ -10,7 +10,8 @@ use Rattle.bound_program.specs.Unrolling.{seen, goes_by}
 use Rattle.bound_program.proofs.trace.Leaves.{Becomes}
 use Rattle.bound_program.proofs.trace.Turns.{turn_goes, turn_ends, turn_stops}
 
-module _ (u v : Unrolled) (whole : List Event) (bound : ℤ → Option ℤ) (body : ℤ → List Event) (at : Pos) (i : ℤ) (h : Becomes u whole v (turns bound body at (turns_left i) i)) (low : i ≤ℤ pos 2147483647) where
+module _ (u v : Unrolled) (whole : List Event) (bound : ℤ → Option ℤ) (body : ℤ → List Event) (at : Pos) (i : ℤ)
+    (h : Becomes u whole v (turns bound body at (turns_left i) i)) (low : i ≤ℤ pos 2147483647) where
   pub stopped : goes_by (bound i) i ≡ goes.Stops → (rest : List Event) → before (seen u) (unrolled u.left (whole ++ rest)) ≡ Err (ControlNotStatic at)
   stopped p rest = h rest ∙ ap (λ es. before (seen v) (unrolled v.left (es ++ rest))) (turn_stops bound body at i low p)
 

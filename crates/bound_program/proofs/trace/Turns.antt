@@ -33,7 +33,8 @@ counts_stops : (r : Option ℤ) (i : ℤ) (at : Pos) (f : Later) → goes_by r i
 counts_stops None i at f h = refl
 counts_stops (Some b) i at f h = stops (int_lt i b) _ _ h
 
-pub turn_goes : (bound : ℤ → Option ℤ) (body : ℤ → List Event) (at : Pos) (i : ℤ) → i ≤ℤ pos 2147483647 → goes_by (bound i) i ≡ goes.On → turns bound body at (turns_left i) i ≡ Turn ∷ (body i ++ turns bound body at (turns_left (i +ℤ pos 1)) (i +ℤ pos 1))
+pub turn_goes : (bound : ℤ → Option ℤ) (body : ℤ → List Event) (at : Pos) (i : ℤ) → i ≤ℤ pos 2147483647 → goes_by (bound i) i ≡ goes.On
+    → turns bound body at (turns_left i) i ≡ Turn ∷ (body i ++ turns bound body at (turns_left (i +ℤ pos 1)) (i +ℤ pos 1))
 unfolding turns
 turn_goes bound body at i h p = rw (fuel i h) (counts_on (bound i) i at _ p)
 

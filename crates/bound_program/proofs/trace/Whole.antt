@@ -25,9 +25,14 @@ from_empty u es h = let a = h.items in let b = h.values in let c = h.left in rw 
 at_end : (w : UnrolledValue) (left : ℕ) → before w (unrolled left []) ≡ Ok w
 at_end w left = let a = append-nil w.items in let b = append-nil w.values in rw (a, b) refl
 
-pub exit_ok : (u v w : Unrolled) (es : List Event) (x : Event) → IsEmpty u → ((rest : List Event) → before (seen u) (unrolled u.left (es ++ rest)) ≡ before (seen v) (unrolled v.left rest)) → ((rest : List Event) → before (seen v) (unrolled v.left ((x ∷ []) ++ rest)) ≡ before (seen w) (unrolled w.left rest)) → unrolled max_trace (es ++ x ∷ []) ≡ Ok (seen w)
+pub exit_ok : (u v w : Unrolled) (es : List Event) (x : Event) → IsEmpty u
+    → ((rest : List Event) → before (seen u) (unrolled u.left (es ++ rest)) ≡ before (seen v) (unrolled v.left rest))
+    → ((rest : List Event) → before (seen v) (unrolled v.left ((x ∷ []) ++ rest)) ≡ before (seen w) (unrolled w.left rest))
+    → unrolled max_trace (es ++ x ∷ []) ≡ Ok (seen w)
 exit_ok u v w es x e h k = from_empty u (es ++ x ∷ []) e ∙ h (x ∷ []) ∙ k [] ∙ at_end (seen w) w.left
 
-pub exit_err : (u v w : Unrolled) (es : List Event) (x : Event) (b : BindRefusal) → IsEmpty u → ((rest : List Event) → before (seen u) (unrolled u.left (es ++ rest)) ≡ before (seen v) (unrolled v.left rest)) → Leaves {X = Unit {0}} v (x ∷ []) (Err b) w → Gives (Err b) (unrolled max_trace (es ++ x ∷ []))
+pub exit_err : (u v w : Unrolled) (es : List Event) (x : Event) (b : BindRefusal) → IsEmpty u
+    → ((rest : List Event) → before (seen u) (unrolled u.left (es ++ rest)) ≡ before (seen v) (unrolled v.left rest))
+    → Leaves {X = Unit {0}} v (x ∷ []) (Err b) w → Gives (Err b) (unrolled max_trace (es ++ x ∷ []))
 exit_err u v w es x b e h (inl p) = inl p
 exit_err u v w es x b e h (inr k) = inr (from_empty u (es ++ x ∷ []) e ∙ h (x ∷ []) ∙ k [])

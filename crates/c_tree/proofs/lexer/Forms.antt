@@ -42,13 +42,17 @@ find_falling p len n (y ∷ ys) x f h =
     by_test false h f b = omega (arith, f h)
 
 -- an item that passes is no longer than the first that does
-find_longest : {X : Type 0} (p : X → Bool) (len : X → ℕ) (same : X → X → Bool) → ((a b : X) → same a b ≡ true → a ≡ b) → (n : ℕ) (xs : List X) (x : X) → falling len n xs ≡ true → member same x xs ≡ true → p x ≡ true → (y : X) × (find p xs ≡ Some y) × (len x ≤ len y)
+find_longest : {X : Type 0} (p : X → Bool) (len : X → ℕ) (same : X → X → Bool) → ((a b : X) → same a b ≡ true → a ≡ b)
+    → (n : ℕ) (xs : List X) (x : X) → falling len n xs ≡ true → member same x xs ≡ true → p x ≡ true → (y : X) × (find p xs ≡ Some y)
+    × (len x ≤ len y)
 find_longest {X = X} p len same is n [] x f m h = cc
 find_longest {X = X} p len same is n (y ∷ ys) x f m h =
     let r = and_parts (nat_le (len y) n) (falling len (len y) ys) f in
     by_test (p y) refl (same x y) refl m (λ g. find_longest p len same is (len y) ys x r.1 g h) (λ z g. find_falling p len (len y) ys z r.1 g)
   where
-    by_test : (t : Bool) → p y ≡ t → (s : Bool) → same x y ≡ s → cond s true (member same x ys) ≡ true → (member same x ys ≡ true → (z : X) × (find p ys ≡ Some z) × (len x ≤ len z)) → ((z : X) → find p ys ≡ Some z → len z ≤ len y) → (z : X) × (cond t (Some y) (find p ys) ≡ Some z) × (len x ≤ len z)
+    by_test : (t : Bool) → p y ≡ t → (s : Bool) → same x y ≡ s → cond s true (member same x ys) ≡ true
+        → (member same x ys ≡ true → (z : X) × (find p ys ≡ Some z) × (len x ≤ len z)) → ((z : X) → find p ys ≡ Some z → len z ≤ len y)
+        → (z : X) × (cond t (Some y) (find p ys) ≡ Some z) × (len x ≤ len z)
     by_test true e true s m f g = (y, refl, let i : x ≡ y = is x y s in subst (λ z. len x ≤ len z) i (omega arith))
     by_test true e false s m f g = let r = f m in (y, refl, omega (arith, r.2, g r.0 r.1))
     by_test false e true s m f g = let i : x ≡ y = is x y s in let w : p y ≡ true = subst (λ z. p z ≡ true) i h in cc
@@ -60,7 +64,8 @@ find_nothing p same is [] x m h = cc
 find_nothing p same is (y ∷ ys) x m h =
     by_test (p y) refl (same x y) refl m h (λ g k. find_nothing p same is ys x g k)
   where
-    by_test : (t : Bool) → p y ≡ t → (s : Bool) → same x y ≡ s → cond s true (member same x ys) ≡ true → cond t (Some y) (find p ys) ≡ None → (member same x ys ≡ true → find p ys ≡ None → p x ≡ false) → p x ≡ false
+    by_test : (t : Bool) → p y ≡ t → (s : Bool) → same x y ≡ s → cond s true (member same x ys) ≡ true → cond t (Some y) (find p ys) ≡ None
+        → (member same x ys ≡ true → find p ys ≡ None → p x ≡ false) → p x ≡ false
     by_test true e s q m h f = cc
     by_test false e true q m h f = let i : x ≡ y = is x y q in subst (λ z. p z ≡ false) (sym i) e
     by_test false e false q m h f = f m h
@@ -92,9 +97,12 @@ sign_starts s rest =
     (bytes_eq-Decides (sign_spelling s) (take (length (sign_spelling s)) (sign_spelling s ++ rest))).1 (sym (take-append_seam (sign_spelling s) rest))
 
 -- the sign that is found is at least as long as any that stands there
-pub sign_found : (s : Sign) (rest : List ℕ) → (t : Sign) × (find (λ z. starts_with nat_eq (sign_spelling s ++ rest) (sign_spelling z)) SIGNS ≡ Some t) × (length (sign_spelling s) ≤ length (sign_spelling t))
+pub sign_found : (s : Sign) (rest : List ℕ) → (t : Sign)
+    × (find (λ z. starts_with nat_eq (sign_spelling s ++ rest) (sign_spelling z)) SIGNS ≡ Some t)
+    × (length (sign_spelling s) ≤ length (sign_spelling t))
 sign_found s rest =
-    find_longest (λ z. starts_with nat_eq (sign_spelling s ++ rest) (sign_spelling z)) (λ z. length (sign_spelling z)) same_sign (same_true the_sign.the_type tt) 3 SIGNS s signs_fall (sign_listed s) (sign_starts s rest)
+    find_longest (λ z. starts_with nat_eq (sign_spelling s ++ rest) (sign_spelling z)) (λ z. length (sign_spelling z)) same_sign
+        (same_true the_sign.the_type tt) 3 SIGNS s signs_fall (sign_listed s) (sign_starts s rest)
 
 -- a reserved word is a name but for being reserved
 pub word_named : (w : Word) → IsName (word_spelling w)

@@ -31,7 +31,8 @@ and_left true b e h = h
 and_left false b e h = cc
 
 -- nothing to pass over
-nothing_passed : (fresh : Bool) (b : ℕ) (bs : List ℕ) → blank b ≡ false → passes_line fresh (b ∷ bs) ≡ false → starts_with nat_eq (b ∷ bs) (codes "/*") ≡ false → (s rest : List ℕ) → IsPassed fresh s rest → b ∷ bs ≢ s ++ rest
+nothing_passed : (fresh : Bool) (b : ℕ) (bs : List ℕ) → blank b ≡ false → passes_line fresh (b ∷ bs) ≡ false
+    → starts_with nat_eq (b ∷ bs) (codes "/*") ≡ false → (s rest : List ℕ) → IsPassed fresh s rest → b ∷ bs ≢ s ++ rest
 nothing_passed fresh b bs h l c s rest (inl p) e =
     let row : b ∷ bs ≡ p.byte ∷ rest = e ∙ ap (λ z. z ++ rest) p.cut in
     let same : b ≡ p.byte = cc in
@@ -46,7 +47,9 @@ nothing_passed fresh b bs h l c s rest (inr (inr (inr p))) e =
     let q = and_left fresh (starts_with nat_eq (b ∷ bs) (codes "#include")) p.alone r.1 in
     starts_not (codes "#include") (b ∷ bs) (p.body ++ rest) q (e ∙ ap (λ z. z ++ rest) p.cut ∙ append_assoc (codes "#include") p.body rest)
 
-pub front_other : (fresh : Bool) (bs : List ℕ) → 0 < length bs → blank (slice_index bs 0) ≡ false → letter (slice_index bs 0) ≡ false → digit (slice_index bs 0) ≡ false → nat_eq (slice_index bs 0) 34 ≡ false → passes_line fresh bs ≡ false → starts_with nat_eq bs (codes "/*") ≡ false → IsFront fresh bs (front_sign bs)
+pub front_other : (fresh : Bool) (bs : List ℕ) → 0 < length bs → blank (slice_index bs 0) ≡ false → letter (slice_index bs 0) ≡ false
+    → digit (slice_index bs 0) ≡ false → nat_eq (slice_index bs 0) 34 ≡ false → passes_line fresh bs ≡ false
+    → starts_with nat_eq bs (codes "/*") ≡ false → IsFront fresh bs (front_sign bs)
 front_other fresh [] o h i d q l c = absurd (omega arith)
 front_other fresh (b ∷ bs) o h i d q l c =
     let r = or_parts (starts_with nat_eq (b ∷ bs) (codes "//")) (fresh && starts_with nat_eq (b ∷ bs) (codes "#include")) l in
@@ -80,7 +83,8 @@ open_text bs t n h c =
     (all_escaped t ++ drop n bs, sym (take-append-drop n bs) ∙ ap (λ z. z ++ drop n bs) h, closed_through t (drop n bs) ∙ c)
 
 -- a bad byte in a text that is closed
-pub bad_text : (bs t : List ℕ) (n : ℕ) → n < length bs → list_all textual t ≡ true → take n bs ≡ 34 ∷ all_escaped t → get_or bs n 0 ≢ 34 → unit_of (drop n bs) ≡ None → is_closed (drop n bs) ≡ true → HasBadByte (take n bs) bs
+pub bad_text : (bs t : List ℕ) (n : ℕ) → n < length bs → list_all textual t ≡ true → take n bs ≡ 34 ∷ all_escaped t → get_or bs n 0 ≢ 34
+    → unit_of (drop n bs) ≡ None → is_closed (drop n bs) ≡ true → HasBadByte (take n bs) bs
 bad_text bs t n w h s q u c = record {
   text = t;
   rest = drop n bs;

@@ -66,7 +66,8 @@ line_is p bs h g =
 pub line_front : (fresh : Bool) (bs : List ℕ) → passes_line fresh bs ≡ true → IsFront fresh bs (Passed (prefix_len in_line bs))
 line_front fresh bs h = by_tests (starts_with nat_eq bs (codes "//")) refl fresh refl (starts_with nat_eq bs (codes "#include")) refl h
   where
-    by_tests : (t : Bool) → starts_with nat_eq bs (codes "//") ≡ t → (u : Bool) → fresh ≡ u → (v : Bool) → starts_with nat_eq bs (codes "#include") ≡ v → (t || (u && v)) ≡ true → IsFront fresh bs (Passed (prefix_len in_line bs))
+    by_tests : (t : Bool) → starts_with nat_eq bs (codes "//") ≡ t → (u : Bool) → fresh ≡ u → (v : Bool)
+        → starts_with nat_eq bs (codes "#include") ≡ v → (t || (u && v)) ≡ true → IsFront fresh bs (Passed (prefix_len in_line bs))
     by_tests true e u f v g h =
         let r = line_is (codes "//") bs refl e in inr (inl (record { body = r.0; cut = r.1; ends = line_ends bs }))
     by_tests false e true f true g h =

@@ -80,7 +80,8 @@ abbrev find_sign : List ℕ → Option Sign
 find_sign bs = find (λ z. starts_with nat_eq bs (sign_spelling z)) SIGNS
 
 -- a form where a sign may begin
-sign_there : (b : ℕ) (bs : List ℕ) → BeginsSign b → (k : Kind) (c : ℕ) (s rest : List ℕ) → HasForm k (c ∷ s) → b ∷ bs ≡ (c ∷ s) ++ rest → (t : Sign) × (find_sign (b ∷ bs) ≡ Some t) × (length (c ∷ s) ≤ length (sign_spelling t))
+sign_there : (b : ℕ) (bs : List ℕ) → BeginsSign b → (k : Kind) (c : ℕ) (s rest : List ℕ) → HasForm k (c ∷ s) → b ∷ bs ≡ (c ∷ s) ++ rest
+    → (t : Sign) × (find_sign (b ∷ bs) ≡ Some t) × (length (c ∷ s) ≤ length (sign_spelling t))
 sign_there b bs h k c s rest f e =
     let same : b ≡ c = cc in
     let r = sign_begins_as k b h (subst (Begins k) (sym same) (begins k c s f)) (c ∷ s) f in
@@ -202,7 +203,8 @@ figure_front fresh b bs d = by_size (nat_lt v 2147483648) refl
     }
 
 -- a sign, or nothing
-pub sign_front : (fresh : Bool) (b : ℕ) (bs : List ℕ) → BeginsSign b → BeginsNoComment (b ∷ bs) → ((s rest : List ℕ) → IsPassed fresh s rest → b ∷ bs ≢ s ++ rest) → IsFront fresh (b ∷ bs) (front_sign (b ∷ bs))
+pub sign_front : (fresh : Bool) (b : ℕ) (bs : List ℕ) → BeginsSign b → BeginsNoComment (b ∷ bs)
+    → ((s rest : List ℕ) → IsPassed fresh s rest → b ∷ bs ≢ s ++ rest) → IsFront fresh (b ∷ bs) (front_sign (b ∷ bs))
 unfolding front_sign
 sign_front fresh b bs h c p = by_sign (find_sign (b ∷ bs)) refl
   where

@@ -125,7 +125,10 @@ one_step fresh bs (Goes (Passed s)) (Ends AtOpenComment) a b = absurd (passed-co
 one_step fresh bs (Goes (Passed s)) (Ends AtOpenText) a b = absurd (passed-text fresh bs s a b)
 one_step fresh bs (Goes (Passed s)) (Ends AtNumberTooLarge) a b = absurd (passed-large fresh bs s a b)
 one_step fresh bs (Goes (Spelled k s)) (Goes (Passed s')) a b = absurd (passed-token fresh bs s' k s b a)
-one_step fresh bs (Goes (Spelled k s)) (Goes (Spelled k' s')) a b = let row = sym a.1 ∙ b.1 in let same = same_front s a.0 s' b.0 row (longest_size k k' s a.0 s' b.0 a.2.0 b.2.0 row) in let kinds = kinds_one k k' s a.2.0.form (subst (HasForm k') (sym same.0) b.2.0.form) in ap (λ z. Goes (Spelled z s)) kinds ∙ ap (λ z. Goes (Spelled k' z)) same.0
+one_step fresh bs (Goes (Spelled k s)) (Goes (Spelled k' s')) a b = let row = sym a.1 ∙ b.1 in let same =
+    same_front s a.0 s' b.0 row (longest_size k k' s a.0 s' b.0 a.2.0 b.2.0 row) in let kinds =
+    kinds_one k k' s a.2.0.form (subst (HasForm k') (sym same.0) b.2.0.form) in ap (λ z. Goes (Spelled z s)) kinds
+    ∙ ap (λ z. Goes (Spelled k' z)) same.0
 one_step fresh bs (Goes (Spelled k s)) (Ends AtEnd) a b = absurd (token-end fresh bs k s a b)
 one_step fresh bs (Goes (Spelled k s)) (Ends (AtBadByte g')) a b = absurd (token-bad fresh bs k s g' a b)
 one_step fresh bs (Goes (Spelled k s)) (Ends AtOpenComment) a b = absurd (token-comment fresh bs k s a b)

@@ -154,7 +154,9 @@ SomeFront fresh bs = (f : Front) × IsFront fresh bs f × LiesIn (length bs) f
 pub some_front : (fresh : Bool) (bs : List ℕ) → 0 < length bs → SomeFront fresh bs
 some_front fresh bs h = by_blank (blank (slice_index bs 0)) refl
   where
-    by_block : blank (slice_index bs 0) ≡ false → letter (slice_index bs 0) ≡ false → digit (slice_index bs 0) ≡ false → nat_eq (slice_index bs 0) 34 ≡ false → passes_line fresh bs ≡ false → (t : Bool) → starts_with nat_eq bs (codes "/*") ≡ t → (o : Option ℕ) → close_len (drop 2 bs) ≡ o → SomeFront fresh bs
+    by_block : blank (slice_index bs 0) ≡ false → letter (slice_index bs 0) ≡ false → digit (slice_index bs 0) ≡ false
+        → nat_eq (slice_index bs 0) 34 ≡ false → passes_line fresh bs ≡ false → (t : Bool) → starts_with nat_eq bs (codes "/*") ≡ t
+        → (o : Option ℕ) → close_len (drop 2 bs) ≡ o → SomeFront fresh bs
     by_block b l d q p false is o c = (front_sign bs, front_other fresh bs h b l d q p is, sign_fits bs h)
     by_block b l d q p true is None c = (OpenComment, open_front fresh bs is c, tt)
     by_block b l d q p true is (Some n) c =
@@ -170,7 +172,8 @@ some_front fresh bs h = by_blank (blank (slice_index bs 0)) refl
         block_fits : (n : ℕ) → n ≤ length (drop 2 bs) → 2 ≤ length bs → n + 2 ≤ length bs
         block_fits n w two = let long = length-drop 2 bs in omega (arith, w, two, long)
 
-    by_line : blank (slice_index bs 0) ≡ false → letter (slice_index bs 0) ≡ false → digit (slice_index bs 0) ≡ false → nat_eq (slice_index bs 0) 34 ≡ false → (t : Bool) → passes_line fresh bs ≡ t → SomeFront fresh bs
+    by_line : blank (slice_index bs 0) ≡ false → letter (slice_index bs 0) ≡ false → digit (slice_index bs 0) ≡ false
+        → nat_eq (slice_index bs 0) 34 ≡ false → (t : Bool) → passes_line fresh bs ≡ t → SomeFront fresh bs
     by_line b l d q true is =
         let n = prefix_len in_line bs in
         let front = line_front fresh bs is in

@@ -22,7 +22,9 @@ Later bs n = (fresh number : Bool) (m : ℕ) (p : Pos) (ts : List Lexeme) → n 
 ended : (bs : List ℕ) (fresh number : Bool) (n : ℕ) (p : Pos) (ts : List Lexeme) → length bs ≤ n → State bs fresh number n p ts → Some bs
 ended bs fresh number n p ts le s = (_, stops_here bs fresh number n p ts AtEnd (drop_all n bs le) s)
 
-by_front : (bs : List ℕ) (fresh number : Bool) (n : ℕ) (p : Pos) (ts : List Lexeme) → n < length bs → State bs fresh number n p ts → (number ≡ true → IsApart (drop n bs)) → Later bs n → (f : Front) → IsFront fresh (drop n bs) f → LiesIn (length (drop n bs)) f → Some bs
+by_front : (bs : List ℕ) (fresh number : Bool) (n : ℕ) (p : Pos) (ts : List Lexeme) → n < length bs → State bs fresh number n p ts
+    → (number ≡ true → IsApart (drop n bs)) → Later bs n → (f : Front) → IsFront fresh (drop n bs) f → LiesIn (length (drop n bs)) f
+    → Some bs
 by_front bs fresh number n p ts lt s clear on (Passed l) is w =
     let long = length-drop n bs in
     on _ _ (n + l) _ ts (omega (arith, w.0)) (omega (arith, w.1, long, lt)) (passed_more bs fresh number n p ts l w.1 clear is s)

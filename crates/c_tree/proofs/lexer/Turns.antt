@@ -50,9 +50,18 @@ tokens_of-push : (n : ℕ) (p : Pos) (xs : List Part) (x : Part) → tokens_of n
 tokens_of-push n p [] x =
     token_one n p x ∙ ap (λ z. token_of z p x) (let e : n ≡ n + length (all_bytes []) = omega arith in e)
 tokens_of-push n p (Passed s ∷ xs) x =
-    tokens_of-push (n + length s) (advance p s) xs x ∙ ap (λ z. tokens_of (n + length s) (advance p s) xs ++ token_of z (advance (advance p s) (all_bytes xs)) x) (let e : n + length s + length (all_bytes xs) ≡ n + length (s ++ all_bytes xs) = omega (arith, length-append s (all_bytes xs)) in e) ∙ ap (λ z. tokens_of (n + length s) (advance p s) xs ++ token_of (n + length (s ++ all_bytes xs)) z x) (sym (advance-append p s (all_bytes xs)))
+    tokens_of-push (n + length s) (advance p s) xs x ∙ ap
+        (λ z. tokens_of (n + length s) (advance p s) xs ++ token_of z (advance (advance p s) (all_bytes xs)) x)
+        (let e : n + length s + length (all_bytes xs) ≡ n + length (s ++ all_bytes xs) = omega (arith, length-append s (all_bytes xs)) in e)
+        ∙ ap (λ z. tokens_of (n + length s) (advance p s) xs ++ token_of (n + length (s ++ all_bytes xs)) z x)
+        (sym (advance-append p s (all_bytes xs)))
 tokens_of-push n p (Spelled k s ∷ xs) x =
-    ap (λ z. record { kind = k; from = n; to = n + length s; at = p } ∷ z) (tokens_of-push (n + length s) (advance p s) xs x ∙ ap (λ z. tokens_of (n + length s) (advance p s) xs ++ token_of z (advance (advance p s) (all_bytes xs)) x) (let e : n + length s + length (all_bytes xs) ≡ n + length (s ++ all_bytes xs) = omega (arith, length-append s (all_bytes xs)) in e) ∙ ap (λ z. tokens_of (n + length s) (advance p s) xs ++ token_of (n + length (s ++ all_bytes xs)) z x) (sym (advance-append p s (all_bytes xs))))
+    ap (λ z. record { kind = k; from = n; to = n + length s; at = p } ∷ z)
+        (tokens_of-push (n + length s) (advance p s) xs x ∙ ap
+        (λ z. tokens_of (n + length s) (advance p s) xs ++ token_of z (advance (advance p s) (all_bytes xs)) x)
+        (let e : n + length s + length (all_bytes xs) ≡ n + length (s ++ all_bytes xs) = omega (arith, length-append s (all_bytes xs)) in e)
+        ∙ ap (λ z. tokens_of (n + length s) (advance p s) xs ++ token_of (n + length (s ++ all_bytes xs)) z x)
+        (sym (advance-append p s (all_bytes xs))))
 
 drop_nil : (n : ℕ) → drop n (let e : List ℕ = [] in e) ≡ []
 drop_nil zero = refl
@@ -65,13 +74,22 @@ drop_twice a (suc b) (x ∷ xs) =
     drop_twice a b xs ∙ ap (λ z. drop z (x ∷ xs)) (let e : suc (b + a) ≡ suc b + a = omega arith in e)
 
 -- one part more
-pub part_more : (bs : List ℕ) (fresh number : Bool) (n : ℕ) (p : Pos) (ts : List Lexeme) (l : ℕ) (x : Part) → l ≤ length (drop n bs) → bytes_of x ≡ take l (drop n bs) → (number ≡ true → IsApart (drop n bs)) → IsPartBefore fresh x (drop l (drop n bs)) → State bs fresh number n p ts → State bs (is_fresh_behind fresh x) (is_number_part x) (n + l) (advance p (take l (drop n bs))) (ts ++ token_of n p x)
+pub part_more : (bs : List ℕ) (fresh number : Bool) (n : ℕ) (p : Pos) (ts : List Lexeme) (l : ℕ) (x : Part) → l ≤ length (drop n bs)
+    → bytes_of x ≡ take l (drop n bs) → (number ≡ true → IsApart (drop n bs)) → IsPartBefore fresh x (drop l (drop n bs))
+    → State bs fresh number n p ts → State bs (is_fresh_behind fresh x) (is_number_part x) (n + l) (advance p (take l (drop n bs)))
+    (ts ++ token_of n p x)
 part_more bs fresh number n p ts l x w b a i s = record {
   parts = s.parts ++ x ∷ [];
   size = omega (arith, s.size, ap length (all_bytes-push s.parts x), length-append (all_bytes s.parts) (bytes_of x), ap length b, taken l (drop n bs) w);
-  place = ap (λ z. advance z (take l (drop n bs))) s.place ∙ sym (advance-append start (all_bytes s.parts) (take l (drop n bs))) ∙ ap (λ z. advance start (all_bytes s.parts ++ z)) (sym b) ∙ ap (advance start) (sym (all_bytes-push s.parts x));
-  tokens = ap (λ z. z ++ token_of n p x) s.tokens ∙ ap (λ z. tokens_of 0 start s.parts ++ token_of z p x) (s.size ∙ sym (zero-add (length (all_bytes s.parts)))) ∙ ap (λ z. tokens_of 0 start s.parts ++ token_of (0 + length (all_bytes s.parts)) z x) s.place ∙ sym (tokens_of-push 0 start s.parts x);
-  goes = λ stop more h. subst (AreParts stop true false bs) (sym (append_assoc s.parts (x ∷ []) more)) (s.goes stop (x ∷ more) (a, (drop l (drop n bs), sym (take-append-drop l (drop n bs)) ∙ ap (λ z. z ++ drop l (drop n bs)) (sym b), i, subst (λ z. AreParts stop (is_fresh_behind fresh x) (is_number_part x) z more) (sym (drop_twice l n bs)) h)));
+  place = ap (λ z. advance z (take l (drop n bs))) s.place ∙ sym (advance-append start (all_bytes s.parts) (take l (drop n bs)))
+      ∙ ap (λ z. advance start (all_bytes s.parts ++ z)) (sym b) ∙ ap (advance start) (sym (all_bytes-push s.parts x));
+  tokens = ap (λ z. z ++ token_of n p x) s.tokens ∙ ap (λ z. tokens_of 0 start s.parts ++ token_of z p x)
+      (s.size ∙ sym (zero-add (length (all_bytes s.parts))))
+      ∙ ap (λ z. tokens_of 0 start s.parts ++ token_of (0 + length (all_bytes s.parts)) z x) s.place
+      ∙ sym (tokens_of-push 0 start s.parts x);
+  goes = λ stop more h. subst (AreParts stop true false bs) (sym (append_assoc s.parts (x ∷ []) more))
+      (s.goes stop (x ∷ more) (a, (drop l (drop n bs), sym (take-append-drop l (drop n bs)) ∙ ap (λ z. z ++ drop l (drop n bs)) (sym b), i,
+      subst (λ z. AreParts stop (is_fresh_behind fresh x) (is_number_part x) z more) (sym (drop_twice l n bs)) h)));
 }
 
 -- the outcome of stopping at a place
@@ -91,7 +109,8 @@ outcome_is xs p ts AtOpenText h g = ap (λ z. Err (refusal.OpenText z)) h
 outcome_is xs p ts AtNumberTooLarge h g = ap (λ z. Err (refusal.NumberTooLarge z)) h
 
 -- where the tokens end, the outcome is known
-pub stops_here : (bs : List ℕ) (fresh number : Bool) (n : ℕ) (p : Pos) (ts : List Lexeme) (stop : Stop) → Stops fresh number (drop n bs) stop → State bs fresh number n p ts → Lexes bs (outcome_at p ts stop)
+pub stops_here : (bs : List ℕ) (fresh number : Bool) (n : ℕ) (p : Pos) (ts : List Lexeme) (stop : Stop)
+    → Stops fresh number (drop n bs) stop → State bs fresh number n p ts → Lexes bs (outcome_at p ts stop)
 stops_here bs fresh number n p ts stop h s = record {
   parts = s.parts;
   stop = stop;
@@ -123,10 +142,17 @@ only_answer bs (Err (refusal.OpenText p)) o h a = one_outcome bs (Err (refusal.O
 only_answer bs (Err (refusal.NumberTooLarge p)) o h a = one_outcome bs (Err (refusal.NumberTooLarge p)) o a h
 only_answer bs (Err refusal.OutOfMemory) o h a = tt
 
-pub passed_more : (bs : List ℕ) (fresh number : Bool) (n : ℕ) (p : Pos) (ts : List Lexeme) (l : ℕ) → l ≤ length (drop n bs) → (number ≡ true → IsApart (drop n bs)) → IsFront fresh (drop n bs) (front.Passed l) → State bs fresh number n p ts → State bs (fresh_after fresh (take l (drop n bs))) false (n + l) (advance p (take l (drop n bs))) ts
+pub passed_more : (bs : List ℕ) (fresh number : Bool) (n : ℕ) (p : Pos) (ts : List Lexeme) (l : ℕ) → l ≤ length (drop n bs)
+    → (number ≡ true → IsApart (drop n bs)) → IsFront fresh (drop n bs) (front.Passed l) → State bs fresh number n p ts
+    → State bs (fresh_after fresh (take l (drop n bs))) false (n + l) (advance p (take l (drop n bs))) ts
 passed_more bs fresh number n p ts l w a f s =
-    subst (State bs (fresh_after fresh (take l (drop n bs))) false (n + l) (advance p (take l (drop n bs)))) (append-nil ts) (part_more bs fresh number n p ts l (Passed (take l (drop n bs))) w refl a f s)
+    subst (State bs (fresh_after fresh (take l (drop n bs))) false (n + l) (advance p (take l (drop n bs)))) (append-nil ts)
+        (part_more bs fresh number n p ts l (Passed (take l (drop n bs))) w refl a f s)
 
-pub token_more : (bs : List ℕ) (fresh number : Bool) (n : ℕ) (p : Pos) (ts : List Lexeme) (k : Kind) (l : ℕ) → l ≤ length (drop n bs) → (number ≡ true → IsApart (drop n bs)) → IsFront fresh (drop n bs) (front.Token k l) → State bs fresh number n p ts → State bs false (is_number k) (n + l) (advance p (take l (drop n bs))) (ts ++ record { kind = k; from = n; to = n + l; at = p } ∷ [])
+pub token_more : (bs : List ℕ) (fresh number : Bool) (n : ℕ) (p : Pos) (ts : List Lexeme) (k : Kind) (l : ℕ) → l ≤ length (drop n bs)
+    → (number ≡ true → IsApart (drop n bs)) → IsFront fresh (drop n bs) (front.Token k l) → State bs fresh number n p ts
+    → State bs false (is_number k) (n + l) (advance p (take l (drop n bs))) (ts ++ record { kind = k; from = n; to = n + l; at = p } ∷ [])
 token_more bs fresh number n p ts k l w a f s =
-    subst (λ z. State bs false (is_number k) (n + l) (advance p (take l (drop n bs))) (ts ++ record { kind = k; from = n; to = n + z; at = p } ∷ [])) (taken l (drop n bs) w) (part_more bs fresh number n p ts l (Spelled k (take l (drop n bs))) w refl a f s)
+    subst (λ z. State bs false (is_number k) (n + l) (advance p (take l (drop n bs)))
+        (ts ++ record { kind = k; from = n; to = n + z; at = p } ∷ [])) (taken l (drop n bs) w)
+        (part_more bs fresh number n p ts l (Spelled k (take l (drop n bs))) w refl a f s)

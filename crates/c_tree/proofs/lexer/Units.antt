@@ -9,11 +9,14 @@ use Rattle.c_tree.specs.Front.{plain, escape_of, unit_of}
 use Rattle.std.proofs.lemmas.List.{append_cancel_left}
 
 -- a byte is spelled by one of the four escapes, or by itself
-pub escaped_cases : (P : ℕ → List ℕ → Type 0) → P 10 (92 ∷ 110 ∷ []) → P 9 (92 ∷ 116 ∷ []) → P 92 (92 ∷ 92 ∷ []) → P 34 (92 ∷ 34 ∷ []) → ((c : ℕ) → nat_eq c 10 ≡ false → nat_eq c 9 ≡ false → nat_eq c 92 ≡ false → nat_eq c 34 ≡ false → P c (c ∷ [])) → (c : ℕ) → P c (escaped c)
+pub escaped_cases : (P : ℕ → List ℕ → Type 0) → P 10 (92 ∷ 110 ∷ []) → P 9 (92 ∷ 116 ∷ []) → P 92 (92 ∷ 92 ∷ []) → P 34 (92 ∷ 34 ∷ [])
+    → ((c : ℕ) → nat_eq c 10 ≡ false → nat_eq c 9 ≡ false → nat_eq c 92 ≡ false → nat_eq c 34 ≡ false → P c (c ∷ [])) → (c : ℕ)
+    → P c (escaped c)
 escaped_cases P n t b q o c =
     by_tests (nat_eq c 10) refl (nat_eq c 9) refl (nat_eq c 92) refl (nat_eq c 34) refl
   where
-    by_tests : (u : Bool) → nat_eq c 10 ≡ u → (v : Bool) → nat_eq c 9 ≡ v → (w : Bool) → nat_eq c 92 ≡ w → (x : Bool) → nat_eq c 34 ≡ x → P c (cond u (92 ∷ 110 ∷ []) (cond v (92 ∷ 116 ∷ []) (cond w (92 ∷ 92 ∷ []) (cond x (92 ∷ 34 ∷ []) (c ∷ [])))))
+    by_tests : (u : Bool) → nat_eq c 10 ≡ u → (v : Bool) → nat_eq c 9 ≡ v → (w : Bool) → nat_eq c 92 ≡ w → (x : Bool) → nat_eq c 34 ≡ x
+        → P c (cond u (92 ∷ 110 ∷ []) (cond v (92 ∷ 116 ∷ []) (cond w (92 ∷ 92 ∷ []) (cond x (92 ∷ 34 ∷ []) (c ∷ [])))))
     by_tests true e v f w g x h = subst (λ z. P z (92 ∷ 110 ∷ [])) (sym (eqb-true c 10 e)) n
     by_tests false e true f w g x h = subst (λ z. P z (92 ∷ 116 ∷ [])) (sym (eqb-true c 9 f)) t
     by_tests false e false f true g x h = subst (λ z. P z (92 ∷ 92 ∷ [])) (sym (eqb-true c 92 g)) b
@@ -40,7 +43,10 @@ plain_textual c h =
     let big : 32 ≤ c = grind (arith, nat_tests) in
     by_tests (nat_eq c 10) refl (nat_eq c 9) refl (nat_eq c 92) refl (nat_eq c 34) refl (nat_le 32 c) refl (nat_eq c 127) refl h
   where
-    by_tests : (u : Bool) → nat_eq c 10 ≡ u → (v : Bool) → nat_eq c 9 ≡ v → (w : Bool) → nat_eq c 92 ≡ w → (x : Bool) → nat_eq c 34 ≡ x → (y : Bool) → nat_le 32 c ≡ y → (z : Bool) → nat_eq c 127 ≡ z → (y && not z && not x && not w) ≡ true → ((u || v || (y && not z)) ≡ true) × (cond u (92 ∷ 110 ∷ []) (cond v (92 ∷ 116 ∷ []) (cond w (92 ∷ 92 ∷ []) (cond x (92 ∷ 34 ∷ []) (c ∷ [])))) ≡ c ∷ [])
+    by_tests : (u : Bool) → nat_eq c 10 ≡ u → (v : Bool) → nat_eq c 9 ≡ v → (w : Bool) → nat_eq c 92 ≡ w → (x : Bool) → nat_eq c 34 ≡ x
+        → (y : Bool) → nat_le 32 c ≡ y → (z : Bool) → nat_eq c 127 ≡ z → (y && not z && not x && not w) ≡ true
+        → ((u || v || (y && not z)) ≡ true) ×
+        (cond u (92 ∷ 110 ∷ []) (cond v (92 ∷ 116 ∷ []) (cond w (92 ∷ 92 ∷ []) (cond x (92 ∷ 34 ∷ []) (c ∷ [])))) ≡ c ∷ [])
     by_tests true e v f w g x i y j z k t = absurd (small (eqb-true c 10 e) y j t)
       where
         small : c ≡ 10 → (y : Bool) → nat_le 32 c ≡ y → (y && not z && not x && not w) ≡ true → ⊥
@@ -75,7 +81,9 @@ escape_is : (bs : List ℕ) (u : ℕ × ℕ) → escape_of bs ≡ Some u → IsU
 escape_is [] u h = cc
 escape_is (b ∷ bs) u h = by_tests (nat_eq b 110) refl (nat_eq b 116) refl (nat_eq b 92) refl (nat_eq b 34) refl h
   where
-    by_tests : (v : Bool) → nat_eq b 110 ≡ v → (w : Bool) → nat_eq b 116 ≡ w → (x : Bool) → nat_eq b 92 ≡ x → (y : Bool) → nat_eq b 34 ≡ y → cond v (Some (10, 2)) (cond w (Some (9, 2)) (cond x (Some (92, 2)) (cond y (Some (34, 2)) None))) ≡ Some u → IsUnit (92 ∷ b ∷ bs) u
+    by_tests : (v : Bool) → nat_eq b 110 ≡ v → (w : Bool) → nat_eq b 116 ≡ w → (x : Bool) → nat_eq b 92 ≡ x → (y : Bool) → nat_eq b 34 ≡ y
+        → cond v (Some (10, 2)) (cond w (Some (9, 2)) (cond x (Some (92, 2)) (cond y (Some (34, 2)) None))) ≡ Some u
+        → IsUnit (92 ∷ b ∷ bs) u
     by_tests true e w f x g y i h = is_unit (92 ∷ b ∷ bs) 10 2 u refl (rw (eqb-true b 110 e) refl) h
     by_tests false e true f x g y i h = is_unit (92 ∷ b ∷ bs) 9 2 u refl (rw (eqb-true b 116 f) refl) h
     by_tests false e false f true g y i h = is_unit (92 ∷ b ∷ bs) 92 2 u refl (rw (eqb-true b 92 g) refl) h
@@ -140,7 +148,9 @@ units_one (c ∷ t) (d ∷ u) r q a b n m h =
     let left : escaped c ++ (all_escaped t ++ r) ≡ escaped d ++ (all_escaped u ++ q) = sym (append_assoc (escaped c) (all_escaped t) r) ∙ h ∙ append_assoc (escaped d) (all_escaped u) q in
     let units = sym (unit_escaped c (all_escaped t ++ r) f.0) ∙ ap unit_of left ∙ unit_escaped d (all_escaped u ++ q) g.0 in
     let same = some_pair c (length (escaped c)) d (length (escaped d)) units in
-    let more = units_one t u r q f.1 g.1 n m (append_cancel_left (escaped d) (all_escaped t ++ r) (all_escaped u ++ q) (subst (λ z. escaped z ++ (all_escaped t ++ r) ≡ escaped d ++ (all_escaped u ++ q)) same left)) in
+    let more = units_one t u r q f.1 g.1 n m
+        (append_cancel_left (escaped d) (all_escaped t ++ r) (all_escaped u ++ q)
+        (subst (λ z. escaped z ++ (all_escaped t ++ r) ≡ escaped d ++ (all_escaped u ++ q)) same left)) in
     (ap (λ z. z ∷ t) same ∙ ap (λ z. d ∷ z) more.0, more.1)
 
 -- whether a text is closed shows behind its bytes

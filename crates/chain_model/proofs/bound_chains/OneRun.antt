@@ -47,7 +47,10 @@ module _ (b : BoundValue) (ks : List RKernel) (o u : Owners) (programs_are_one :
   needs_before_same r [] = fun_ext (λ d. fun_ext (λ y. owns_same r d y))
   needs_before_same r (site ∷ sites) =
       let ih = needs_before_same r sites in
-      fun_ext (λ d. fun_ext (λ y. ap₂ (λ (p : ℕ → ℕ → Bool) (f : ℕ → Bool). p d y || any_below (set_size b.mesh site.set) (λ e. f e && list_any (reads_pair b d y e) site.args)) ih (fun_ext (λ e. executes_for_same r (needs_before b o r sites) (needs_before c u r sites) ih site e))))
+      fun_ext (λ d. fun_ext (λ y. ap₂
+          (λ (p : ℕ → ℕ → Bool) (f : ℕ → Bool). p d y || any_below (set_size b.mesh site.set)
+          (λ e. f e && list_any (reads_pair b d y e) site.args)) ih
+          (fun_ext (λ e. executes_for_same r (needs_before b o r sites) (needs_before c u r sites) ih site e))))
 
   free_sites_same : (xs : List ItemValue) → free_sites b xs ≡ free_sites c xs
   free_sites_same [] = refl
@@ -110,4 +113,6 @@ pub chains_are_one : ProgramsAreOne → ChainsAreOne
 chains_are_one programs_are_one b ks o u h = record { text = text; dump = dump_same b ks o u programs_are_one h }
   where
     text : chains_text b o ≡ chains_text (with_kernels b ks) u
-    text = ap₂ (λ chains messages. codes "ok items " ++ decimal (length b.trace) ++ codes " chains " ++ decimal chains ++ codes " messages " ++ decimal messages ++ codes "\n") (ap (λ f. count_below (length b.trace) f) (begins_same b ks o u programs_are_one h)) (messages_same b ks o u programs_are_one h)
+    text = ap₂ (λ chains messages. codes "ok items " ++ decimal (length b.trace) ++ codes " chains " ++ decimal chains ++ codes " messages "
+        ++ decimal messages ++ codes "\n") (ap (λ f. count_below (length b.trace) f) (begins_same b ks o u programs_are_one h))
+        (messages_same b ks o u programs_are_one h)

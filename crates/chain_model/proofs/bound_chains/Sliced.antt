@@ -63,7 +63,8 @@ module _ (b : BoundValue) (e : ℕ) (x : DatCell) where
   modified_pair pairs (Dat d None a) h m need =
       and_from (not (class.is_read a)) (pairs d e) (not_from_false (class.is_read a) (not_read a m)) (pair_of d e pairs (two_parts d e h) need)
   modified_pair pairs (Dat d (Some v) a) h m need =
-      and_from (not (class.is_read a)) (pairs d (target b.mesh v.map e v.index)) (not_from_false (class.is_read a) (not_read a m)) (pair_of d (target b.mesh v.map e v.index) pairs (two_parts d (target b.mesh v.map e v.index) h) need)
+      and_from (not (class.is_read a)) (pairs d (target b.mesh v.map e v.index)) (not_from_false (class.is_read a) (not_read a m))
+          (pair_of d (target b.mesh v.map e v.index) pairs (two_parts d (target b.mesh v.map e v.index) h) need)
   modified_pair pairs (Global v a) h m need = absurd (false≢true h)
 
   same_pair : (d y : ℕ) → (d ≡ x.dat) × (y ≡ x.element) → (nat_eq d x.dat && nat_eq y x.element) ≡ true
@@ -73,7 +74,8 @@ module _ (b : BoundValue) (e : ℕ) (x : DatCell) where
       → reading (theorem.access_of (argument_of a)) ≡ true → reads_pair b x.dat x.element e a ≡ true
   read_pair (Dat d None a) h m = and_from (may_read a) (nat_eq d x.dat && nat_eq e x.element) (may_read_is a m) (same_pair d e (two_parts d e h))
   read_pair (Dat d (Some v) a) h m =
-      and_from (may_read a) (nat_eq d x.dat && nat_eq (target b.mesh v.map e v.index) x.element) (may_read_is a m) (same_pair d (target b.mesh v.map e v.index) (two_parts d (target b.mesh v.map e v.index) h))
+      and_from (may_read a) (nat_eq d x.dat && nat_eq (target b.mesh v.map e v.index) x.element) (may_read_is a m)
+          (same_pair d (target b.mesh v.map e v.index) (two_parts d (target b.mesh v.map e v.index) h))
   read_pair (Global v a) h m = absurd (false≢true h)
 
 module _ (b : BoundValue) (o : Owners) (meshes : List RankMesh) (p : PlanValue) where
@@ -85,7 +87,8 @@ module _ (b : BoundValue) (o : Owners) (meshes : List RankMesh) (p : PlanValue) 
       (list_any_at (modifies_some b (needs b o (suc k) r) e) (site_of b k).args w.0 no_arg w.1
       (modified_pair b e x (needs b o (suc k) r) (get_or (site_of b k).args w.0 no_arg) w.2 w.3 need))
 
-  is_read_by : (k r e : ℕ) (x : DatCell) → kind_of (item_at b k) ≡ Free → e < set_size b.mesh (site_of b k).set → executes b o k r e ≡ true → is_read ((setup_of b o meshes p).touch k e (Data x)) ≡ true → needs b o k r x.dat x.element ≡ true
+  is_read_by : (k r e : ℕ) (x : DatCell) → kind_of (item_at b k) ≡ Free → e < set_size b.mesh (site_of b k).set → executes b o k r e ≡ true
+      → is_read ((setup_of b o meshes p).touch k e (Data x)) ≡ true → needs b o k r x.dat x.element ≡ true
   is_read_by k r e x free le runs h =
       let w = read_by (entries b) (dat_width b) (var_width b) (argument_at (site_of b k)) e (Data x) (length (site_of b k).args) h in
       (backwards b o).needed k r x.dat x.element (ap is_free free)

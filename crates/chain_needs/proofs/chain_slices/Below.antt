@@ -108,7 +108,8 @@ front_more own (x ∷ xs) l =
     ap (λ n. (get_or (x ∷ (xs ++ l ∷ [])) n x).needed.items) (length_push xs l)
     ∙ ap (λ (z : Level). z.needed.items) (get_or_push (x ∷ xs) l x (length xs + 1) (omega arith))
 
-pub front_any : (own other : List (Vec RankSet Memory)) (levels : List Level) → 0 < length levels → Rattle.chain_needs.specs.Levels.front_of own levels ≡ Rattle.chain_needs.specs.Levels.front_of other levels
+pub front_any : (own other : List (Vec RankSet Memory)) (levels : List Level) → 0 < length levels
+    → Rattle.chain_needs.specs.Levels.front_of own levels ≡ Rattle.chain_needs.specs.Levels.front_of other levels
 front_any own other [] l = absurd (omega arith)
 front_any own other (x ∷ xs) l = refl
 
@@ -119,11 +120,15 @@ pub own_below : (b : BoundValue) (o : Owners) (own : List (Vec RankSet Memory)) 
 own_below b o own owners ranges pairs has d y r t = ⊎_elim
     (λ (l : d < dat_count b.mesh). ⊎_elim
     (λ (m : y < set_size b.mesh (Rattle.mesh_decl.specs.Mesh.dat_set b.mesh d)).
-    let q : nat_eq r (owner_of o (Rattle.mesh_decl.specs.Mesh.dat_set b.mesh d) y) ≡ true = Rattle.chain_needs.proofs.OwnPairs.owner_is b o d y r (owner_of o (Rattle.mesh_decl.specs.Mesh.dat_set b.mesh d) y) m refl ∙ (sym (has d y r l m) ∙ t) in
+    let q : nat_eq r (owner_of o (Rattle.mesh_decl.specs.Mesh.dat_set b.mesh d) y) ≡ true =
+        Rattle.chain_needs.proofs.OwnPairs.owner_is b o d y r (owner_of o (Rattle.mesh_decl.specs.Mesh.dat_set b.mesh d) y) m refl
+        ∙ (sym (has d y r l m) ∙ t) in
     let e : r ≡ owner_of o (Rattle.mesh_decl.specs.Mesh.dat_set b.mesh d) y = eqb-true r (owner_of o (Rattle.mesh_decl.specs.Mesh.dat_set b.mesh d) y) q in
     subst (λ z. z < o.ranks) (sym e) (owners.below (Rattle.mesh_decl.specs.Mesh.dat_set b.mesh d) y (ranges.dats d l).set m))
     (λ (m : set_size b.mesh (Rattle.mesh_decl.specs.Mesh.dat_set b.mesh d) ≤ y).
-    absurd (false≢true (sym (has_at_past (sets_in own d) y r (let e : length (sets_in own d) ≡ set_size b.mesh (Rattle.mesh_decl.specs.Mesh.dat_set b.mesh d) = pairs.lengths d l in omega arith)) ∙ t)))
+    absurd (false≢true (sym (has_at_past (sets_in own d) y r
+        (let e : length (sets_in own d) ≡ set_size b.mesh (Rattle.mesh_decl.specs.Mesh.dat_set b.mesh d) = pairs.lengths d l in
+        omega arith)) ∙ t)))
     (cases_lt y (set_size b.mesh (Rattle.mesh_decl.specs.Mesh.dat_set b.mesh d))))
     (λ (l : dat_count b.mesh ≤ d).
     absurd (false≢true (sym (ap (λ (z : List RankSet). has_at z y r) (sets_past own d (let e : length own ≡ dat_count b.mesh = pairs.count in omega arith)) ∙ has_at_past [] y r (omega arith)) ∙ t)))

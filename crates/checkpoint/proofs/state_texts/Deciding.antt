@@ -54,7 +54,8 @@ spells : (ws : List (List ℕ)) → ((zs : List ℤ) × Spell ws zs) ⊎ ((zs : 
 spells [] = inl ([], tt)
 spells (w ∷ ws) = by (i32_judged (integer_of w)) refl (spells ws)
   where
-    by : (r : Result ℤ NumRefusal) → i32_judged (integer_of w) ≡ r → ((zs : List ℤ) × Spell ws zs) ⊎ ((zs : List ℤ) → Spell ws zs → ⊥) → ((zs : List ℤ) × Spell (w ∷ ws) zs) ⊎ ((zs : List ℤ) → Spell (w ∷ ws) zs → ⊥)
+    by : (r : Result ℤ NumRefusal) → i32_judged (integer_of w) ≡ r → ((zs : List ℤ) × Spell ws zs) ⊎ ((zs : List ℤ) → Spell ws zs → ⊥)
+        → ((zs : List ℤ) × Spell (w ∷ ws) zs) ⊎ ((zs : List ℤ) → Spell (w ∷ ws) zs → ⊥)
     by (Err n) e s = inr (λ zs. wrong n e zs)
       where
         wrong : (n : NumRefusal) → i32_judged (integer_of w) ≡ Err n → (zs : List ℤ) → Spell (w ∷ ws) zs → ⊥
@@ -77,7 +78,9 @@ values_dec (suc n) front = by (spells (words front))
   where
     counted : (zs : List ℤ) → Spell (words front) zs → (length zs ≡ suc n) ⊎ (length zs ≡ suc n → ⊥) → HasSome (suc n) front
     counted zs s (inl e) = inl (zs, record { words = words front; spell = s; is = ap (λ z. z ++ 10 ∷ []) (sym (joined front)) ∙ sym (words_row (words front)); count = e })
-    counted zs s (inr ne) = inr (λ ys h. ne (ap length (spell_one (words front) zs ys s (subst (λ (z : List (List ℕ)). Spell z ys) (sym (words_are (suc n) front ys h (omega arith))) h.spell)) ∙ h.count))
+    counted zs s (inr ne) = inr (λ ys h. ne
+        (ap length (spell_one (words front) zs ys s
+        (subst (λ (z : List (List ℕ)). Spell z ys) (sym (words_are (suc n) front ys h (omega arith))) h.spell)) ∙ h.count))
 
     by : ((zs : List ℤ) × Spell (words front) zs) ⊎ ((zs : List ℤ) → Spell (words front) zs → ⊥) → HasSome (suc n) front
     by (inl s) = counted s.0 s.1 (cases_eq (length s.0) (suc n))

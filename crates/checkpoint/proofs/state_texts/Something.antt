@@ -45,7 +45,8 @@ dats_inner g (d ∷ ds) =
 
 module _ (b : BoundValue) (k : ℕ) where
   -- of variables
-  vars_values : (n : ℕ) (starts : List (List ℤ)) (ls : List (List ℕ)) (zs : List ℤ) → AllFit b k (awaited_vars n starts) ls zs → (told : List (List ℤ)) × (zs ≡ flat told) × (map length told ≡ map length starts)
+  vars_values : (n : ℕ) (starts : List (List ℤ)) (ls : List (List ℕ)) (zs : List ℤ) → AllFit b k (awaited_vars n starts) ls zs
+      → (told : List (List ℤ)) × (zs ≡ flat told) × (map length told ≡ map length starts)
   vars_values n [] [] zs f = ([], f, refl)
   vars_values n [] (l ∷ ls) zs f = absurd f
   vars_values n (y ∷ ys) [] zs f = absurd f
@@ -64,7 +65,8 @@ module _ (b : BoundValue) (k : ℕ) where
   dat_counted g d (l ∷ ls) zs f = ap length (f.2 ∙ ap (λ (z : List ℤ). z ++ f.1) f.3.2) ∙ elements_counted b k (dat_dim g d) 0 (set_size g (dat_set g d)) ls f.1 f.4
 
   -- of dats
-  dats_values : (g : MeshValue) (at : (d : ℕ) → d < dat_count g → IsDatAt g d) (d n : ℕ) (ls : List (List ℕ)) (zs : List ℤ) → d + n ≤ dat_count g → AllFit b k (flat_map (awaited_dat g) (range_with_len d n)) ls zs
+  dats_values : (g : MeshValue) (at : (d : ℕ) → d < dat_count g → IsDatAt g d) (d n : ℕ) (ls : List (List ℕ)) (zs : List ℤ)
+      → d + n ≤ dat_count g → AllFit b k (flat_map (awaited_dat g) (range_with_len d n)) ls zs
       → (told : List (List ℤ)) × (zs ≡ flat told) × (map length told ≡ map (λ e. length (dat_values g e)) (range_with_len d n))
   dats_values g at d zero [] zs le f = ([], f, refl)
   dats_values g at d zero (l ∷ ls) zs le f = absurd f
@@ -134,7 +136,8 @@ module _ (b : BoundValue) (at : (d : ℕ) → d < dat_count b.mesh → IsDatAt b
 abbrev Tells : BoundValue → List ℕ → Type 0
 Tells b bytes = ((s : StateValue) × Says b bytes s) ⊎ ((number : ℕ) × (line : ℕ) × SaysNone b bytes number line)
 
-by_text : (b : BoundValue) (bytes front text : List ℕ) → IsSplit bytes front text → ((s : StateValue) × TextSays b text s) ⊎ ((number : ℕ) × (line : ℕ) × TextSaysNone b text number line) → Tells b bytes
+by_text : (b : BoundValue) (bytes front text : List ℕ) → IsSplit bytes front text → ((s : StateValue) × TextSays b text s)
+    ⊎ ((number : ℕ) × (line : ℕ) × TextSaysNone b text number line) → Tells b bytes
 by_text b bytes front text split (inl s) = inl (s.0, file_says b bytes front text split s.0 s.1)
 by_text b bytes front text split (inr r) = inr (r.0, r.1 + (lines_in front + 2), none_at b bytes front text split (lines_in front + 2) refl r.0 r.1 r.2)
 

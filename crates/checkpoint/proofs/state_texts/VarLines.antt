@@ -67,12 +67,14 @@ vars_push zs z = vars_cut zs [] z ∙ append-nil (awaited_vars 0 zs ++ awaited_v
 pub lengths_long : (zs ws : List (List ℤ)) → map length zs ≡ map length ws → length zs ≡ length ws
 lengths_long zs ws e = sym (length-map zs length) ∙ (ap length e ∙ length-map ws length)
 
-module _ (b : BoundValue) (k : ℕ) (xs : List VarValue) (x : VarValue) (told : List (List ℤ)) (u v : Unread) (shape : map length told ≡ map length (starts xs)) (p : FitsAmong b k (awaited_vars 0 (starts xs)) u v (flat told)) where
+module _ (b : BoundValue) (k : ℕ) (xs : List VarValue) (x : VarValue) (told : List (List ℤ)) (u v : Unread)
+    (shape : map length told ≡ map length (starts xs)) (p : FitsAmong b k (awaited_vars 0 (starts xs)) u v (flat told)) where
   many : length told ≡ length (starts xs)
   many = lengths_long told (starts xs) shape
 
   -- one more variable
-  pub var_taken : (w : Unread) (z : List ℤ) → x.is_const ≡ false → FitsAmong b k (awaited_var (length told) (length x.start)) v w z → FitsAmong b k (awaited_vars 0 (starts (xs ++ x ∷ []))) u w (flat (told ++ z ∷ []))
+  pub var_taken : (w : Unread) (z : List ℤ) → x.is_const ≡ false → FitsAmong b k (awaited_var (length told) (length x.start)) v w z
+      → FitsAmong b k (awaited_vars 0 (starts (xs ++ x ∷ []))) u w (flat (told ++ z ∷ []))
   var_taken w z c q =
       let lines : awaited_vars 0 (starts xs) ++ awaited_var (length told) (length x.start) ≡ awaited_vars 0 (starts (xs ++ x ∷ [])) =
       ap (λ n. awaited_vars 0 (starts xs) ++ awaited_var n (length x.start)) many ∙ sym (ap (awaited_vars 0) (starts_push xs x c) ∙ vars_push (starts xs) x.start) in
@@ -85,7 +87,8 @@ module _ (b : BoundValue) (k : ℕ) (xs : List VarValue) (x : VarValue) (told : 
   var_passed c = fits_same b k (awaited_vars 0 (starts xs)) (awaited_vars 0 (starts (xs ++ x ∷ []))) u v (flat told) (ap (awaited_vars 0) (sym (starts_const xs x c))) p
 
   -- one whose lines are refused
-  pub var_refused : (ys : List VarValue) (e : StateRefusal) → x.is_const ≡ false → RefusesAmong b k (awaited_var (length told) (length x.start)) v e → RefusesAmong b k (awaited_vars 0 (starts (xs ++ x ∷ ys))) u e
+  pub var_refused : (ys : List VarValue) (e : StateRefusal) → x.is_const ≡ false
+      → RefusesAmong b k (awaited_var (length told) (length x.start)) v e → RefusesAmong b k (awaited_vars 0 (starts (xs ++ x ∷ ys))) u e
   var_refused ys e c r =
       let front = awaited_vars 0 (starts xs) ++ awaited_var (length told) (length x.start) in
       let behind = awaited_vars (suc (length (starts xs))) (starts ys) in

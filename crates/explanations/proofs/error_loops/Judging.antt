@@ -97,7 +97,8 @@ none_next ks j xs i x lt is h p =
     subst (λ n. All (λ e. IsGiving ks j e None) (map call_of (take n xs))) next (all_next (λ e. IsGiving ks j e None) call_of xs i x lt is h p)
 
 -- none does, where none is left
-pub none_left : (ks : List RKernel) (j : Judgement) (xs : List LoopCall) (i : ℕ) → length xs ≤ i → All (λ e. IsGiving ks j e None) (map call_of (take i xs)) → All (λ e. IsGiving ks j e None) (map call_of xs)
+pub none_left : (ks : List RKernel) (j : Judgement) (xs : List LoopCall) (i : ℕ) → length xs ≤ i
+    → All (λ e. IsGiving ks j e None) (map call_of (take i xs)) → All (λ e. IsGiving ks j e None) (map call_of xs)
 none_left ks j xs i none h = subst (λ l. All (λ e. IsGiving ks j e None) (map call_of l)) (take_all i xs none) h
 
 -- what is so of a value, where it follows

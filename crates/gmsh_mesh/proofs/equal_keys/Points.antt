@@ -17,10 +17,12 @@ point_less sorted c d r s k p q lt e less = ⊎_elim
 -- one list has one point for a key
 pub point_one : (sorted : List ℕ) (c r s : ℕ) → IsPoint sorted c r → IsPoint sorted c s → r ≡ s
 point_one sorted c r s p q = ⊎_elim
-    (λ (a : r < s). absurd (let n : s ≤ length sorted = q.within in let x : get_or sorted r 0 < c = q.below r a in let y : c ≤ get_or sorted r 0 = p.above r (omega arith) (omega arith) in omega arith))
+    (λ (a : r < s). absurd (let n : s ≤ length sorted = q.within in let x : get_or sorted r 0 < c = q.below r a in
+        let y : c ≤ get_or sorted r 0 = p.above r (omega arith) (omega arith) in omega arith))
     (λ (a : s ≤ r).
     ⊎_elim
-    (λ (b : s < r). absurd (let n : r ≤ length sorted = p.within in let x : get_or sorted s 0 < c = p.below s b in let y : c ≤ get_or sorted s 0 = q.above s (omega arith) (omega arith) in omega arith))
+    (λ (b : s < r). absurd (let n : r ≤ length sorted = p.within in let x : get_or sorted s 0 < c = p.below s b in
+        let y : c ≤ get_or sorted s 0 = q.above s (omega arith) (omega arith) in omega arith))
     (λ (b : r ≤ s). omega arith)
     (cases_lt s r))
     (cases_lt r s)
@@ -47,7 +49,9 @@ pub classes_from : (keys sorted of : List ℕ) → length of ≡ length keys →
     → ((i : ℕ) → i < length keys → IsPoint sorted (get_or keys i 0) (get_or of i 0)) → AreClasses keys of
 classes_from keys sorted of n m there points = record {
   size = n;
-  small = λ i il. (let g : (k : ℕ) × (k < length sorted) × (get_or sorted k 0 ≡ get_or keys i 0) = there i il in let a : get_or of i 0 < length sorted = point_small sorted (get_or keys i 0) (get_or of i 0) g.0 (points i il) g.1 g.2 in omega arith);
+  small = λ i il. (let g : (k : ℕ) × (k < length sorted) × (get_or sorted k 0 ≡ get_or keys i 0) = there i il in
+      let a : get_or of i 0 < length sorted = point_small sorted (get_or keys i 0) (get_or of i 0) g.0 (points i il) g.1 g.2 in
+      omega arith);
   same = λ i j il jl. (
     (λ h. (let g : (k : ℕ) × (k < length sorted) × (get_or sorted k 0 ≡ get_or keys i 0) = there i il in
         let f : (k : ℕ) × (k < length sorted) × (get_or sorted k 0 ≡ get_or keys j 0) = there j jl in

@@ -63,7 +63,8 @@ module _ (name bytes : List ℕ) where
   kept_name [] = tt
   kept_name (r ∷ rs) = by (kept_name rs) (bytes_eq r.0 name) refl
     where
-      by : IfSome (kept_for (keeping rs name bytes) name) (λ o. o ≡ Some bytes) → (x : Bool) → bytes_eq r.0 name ≡ x → IfSome (kept_for (if x then (r.0, Some bytes) ∷ rs else r ∷ keeping rs name bytes) name) (λ o. o ≡ Some bytes)
+      by : IfSome (kept_for (keeping rs name bytes) name) (λ o. o ≡ Some bytes) → (x : Bool) → bytes_eq r.0 name ≡ x
+          → IfSome (kept_for (if x then (r.0, Some bytes) ∷ rs else r ∷ keeping rs name bytes) name) (λ o. o ≡ Some bytes)
       by behind true e = rw e refl
       by behind false e = rw e behind
 

@@ -45,7 +45,8 @@ ends_then x y s (Faulted t ls f) go h k = (
   λ e. h.2 (and_parts x.ordered y.ordered (and_parts (not (x.stores && y.faults)) (x.ordered && y.ordered) e).1).0,
 )
 
-ends_with : {A : Type 0} → (x : Effects) (s : Store) (ls : List ℤ) (r : Result A KernelFault) (go : A → Outcome) → (x.faults ≡ false → HasValue r) → ((v : A) → r ≡ Ok v → EndsBy x s (go v)) → EndsBy x s (with_value s ls r go)
+ends_with : {A : Type 0} → (x : Effects) (s : Store) (ls : List ℤ) (r : Result A KernelFault) (go : A → Outcome)
+    → (x.faults ≡ false → HasValue r) → ((v : A) → r ≡ Ok v → EndsBy x s (go v)) → EndsBy x s (with_value s ls r go)
 ends_with x s ls (Ok v) go h k = k v refl
 ends_with x s ls (Err f) go h k = (true_from_ne_false x.faults h, λ e. refl, λ e. refl)
 
@@ -87,7 +88,8 @@ made_again false false false = refl
 again : (x : Effects) → in_order x (in_order x x) ≡ in_order x x
 again x = made_again x.stores x.faults x.ordered
 
-turns_end : (x : Effects) (body : Store → List ℤ → Outcome) (k : ℕ) → ((s : Store) (ls : List ℤ) → EndsBy x s (body s ls)) → (i n : ℕ) (s : Store) (ls : List ℤ) → EndsBy (in_order x x) s (turns body k i n s ls)
+turns_end : (x : Effects) (body : Store → List ℤ → Outcome) (k : ℕ) → ((s : Store) (ls : List ℤ) → EndsBy x s (body s ls))
+    → (i n : ℕ) (s : Store) (ls : List ℤ) → EndsBy (in_order x x) s (turns body k i n s ls)
 turns_end x body k h i zero s ls = λ e. refl
 turns_end x body k h i (suc n) s ls =
     subst (λ y. EndsBy y s (turns body k i (suc n) s ls)) (again x)
@@ -117,7 +119,8 @@ module _ (counts : List ℕ) (ts : List Target) (consts : List ℤ) (counted : H
         (λ r g. λ h. refl))))
     ends (SetArg a form ix at op opat e) s ls =
         let x = effects_of counts (SetArg a form ix at op opat e) in
-        let parts = λ (h : x.faults ≡ false). or_parts (may_be_out (count_at counts a) ix) (sign_may_fault op e || may_fault counts e) (or_parts (may_be_out (count_at counts a) ix || (sign_may_fault op e || may_fault counts e)) false h).0 in
+        let parts = λ (h : x.faults ≡ false). or_parts (may_be_out (count_at counts a) ix) (sign_may_fault op e || may_fault counts e)
+            (or_parts (may_be_out (count_at counts a) ix || (sign_may_fault op e || may_fault counts e)) false h).0 in
         let sides = or_parts (sign_may_fault op e) (may_fault counts e) in
         ends_with x s ls (value_of ts consts ix s ls) _ (λ h. index_value ts consts s ls (count_at counts a) ix (parts h).0)
         (λ z d. ends_with x s ls (index_in (target_at ts a).count at z) _ (λ h. index_has ts consts s ls (count_at counts a) (target_at ts a).count ix at (counted a) (parts h).0 z d)

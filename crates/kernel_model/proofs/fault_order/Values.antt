@@ -85,7 +85,8 @@ module _ (ts : List Target) (consts : List ℤ) (s : Store) (ls : List ℤ) wher
   index_value count (Number n) e = tt
   index_value count ix e = absurd (let g : ⊥ = cc in g)
 
-  element_has : (count real : ℕ) (ix : RExpr) (at : Pos) (go : ℕ → ℤ) → count ≤ real → may_be_out count ix ≡ false → HasValue (on_value Err (value_of ts consts ix s ls) (λ z. on_value Err (index_in real at z) (λ i. Ok (go i))))
+  element_has : (count real : ℕ) (ix : RExpr) (at : Pos) (go : ℕ → ℤ) → count ≤ real → may_be_out count ix ≡ false
+      → HasValue (on_value Err (value_of ts consts ix s ls) (λ z. on_value Err (index_in real at z) (λ i. Ok (go i))))
   element_has count real ix at go le e =
       value_then (value_of ts consts ix s ls) (λ z. on_value Err (index_in real at z) (λ i. Ok (go i))) (index_value count ix e)
       (λ z f. value_then (index_in real at z) (λ i. Ok (go i)) (index_has count real ix at le e z f) (λ i g. tt))

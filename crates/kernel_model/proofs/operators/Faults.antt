@@ -19,7 +19,8 @@ unless_zero_of (Err k) b v at value zero only =
     let e : is_zero b ≡ true = (Decides-int_eq b (pos 0)).1 (zero.0 (ap Err only)) in
     ap (λ c. placed (Err c) at) only ∙ sym (ap (λ t. cond t (Err (fault DivZero at)) (Ok v)) e)
 
-pub if_shift_of : (r : Result ℤ Fault) (b v : ℤ) (at : Pos) → IfOk r (λ q. q ≡ v) → (IsErrOf r ShiftCount ↔ ((b <ℤ pos 0) ⊎ (pos 31 <ℤ b))) → IfErr r (λ e. e ≡ ShiftCount) → placed r at ≡ if_shift b at v
+pub if_shift_of : (r : Result ℤ Fault) (b v : ℤ) (at : Pos) → IfOk r (λ q. q ≡ v) → (IsErrOf r ShiftCount ↔ ((b <ℤ pos 0) ⊎ (pos 31 <ℤ b)))
+    → IfErr r (λ e. e ≡ ShiftCount) → placed r at ≡ if_shift b at v
 if_shift_of (Ok q) b v at value outside only = pick (int_lt b (pos 0)) (int_lt (pos 31) b) refl refl
   where
     never : (b <ℤ pos 0) ⊎ (pos 31 <ℤ b) → ⊥
@@ -35,7 +36,8 @@ if_shift_of (Err k) b v at value outside only =
     placed_is : (k : Fault) → k ≡ ShiftCount → ◌≡◌ {A = Value} (Err (fault k at)) (Err (fault ShiftCount at))
     placed_is k e = ap (λ c. placed (Err c) at) e
 
-    pick : (s t : Bool) → int_lt b (pos 0) ≡ s → int_lt (pos 31) b ≡ t → (b <ℤ pos 0) ⊎ (pos 31 <ℤ b) → ◌≡◌ {A = Value} (Err (fault ShiftCount at)) (cond (not s && not t) (Ok v) (Err (fault ShiftCount at)))
+    pick : (s t : Bool) → int_lt b (pos 0) ≡ s → int_lt (pos 31) b ≡ t → (b <ℤ pos 0) ⊎ (pos 31 <ℤ b)
+        → ◌≡◌ {A = Value} (Err (fault ShiftCount at)) (cond (not s && not t) (Ok v) (Err (fault ShiftCount at)))
     pick true t e f h = refl
     pick false true e f h = refl
     pick false false e f (inl h) = absurd (subst T e h.lt)

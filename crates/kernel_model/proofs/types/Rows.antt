@@ -13,7 +13,8 @@ abbrev row_of : RStmt → (n : Count) × Row_of-RStmt n
 row_of (Block' _ row) = (_, row)
 row_of _ = (_, end_of-RStmt)
 
-module _ (P : RStmt → Type 0) (R : (n : Count) → Row_of-RStmt n → Type 0) (nothing : R _ end_of-RStmt) (first_of : (n : Count) (first : RStmt) (rest : Row_of-RStmt n) → R _ (more_of-RStmt first rest) ↔ (P first × R n rest)) where
+module _ (P : RStmt → Type 0) (R : (n : Count) → Row_of-RStmt n → Type 0) (nothing : R _ end_of-RStmt)
+    (first_of : (n : Count) (first : RStmt) (rest : Row_of-RStmt n) → R _ (more_of-RStmt first rest) ↔ (P first × R n rest)) where
   listed : (n : Count) (row : Row_of-RStmt n) → R n row → Each P (items-the_row-RStmt n row)
   listed n end_of-RStmt h = tt
   listed n (more_of-RStmt first rest) h = let k = (first_of _ first rest).0 h in (k.0, listed _ rest k.1)
@@ -37,13 +38,15 @@ here P xs i x lt e =
     (λ h. let k = subst (Each P) cut h in (k.0, k.1), λ h. subst (Each P) (sym cut) (h.0, h.1))
 
 -- one more has the property
-pub turn : (P : RStmt → Type 0) (S : Type 0) (xs : List RStmt) (i : ℕ) (x : RStmt) (b : Bool) → i < length xs → x ≡ get_or xs i x → IsTrue b ↔ P x → b ≡ true → S ↔ Each P (drop i xs) → S ↔ Each P (drop (i + 1) xs)
+pub turn : (P : RStmt → Type 0) (S : Type 0) (xs : List RStmt) (i : ℕ) (x : RStmt) (b : Bool) → i < length xs → x ≡ get_or xs i x
+    → IsTrue b ↔ P x → b ≡ true → S ↔ Each P (drop i xs) → S ↔ Each P (drop (i + 1) xs)
 turn P S xs i x b lt e d t h =
     let k = here P xs i x lt e in
     (λ s. (k.0 (h.0 s)).1, λ rest. h.1 (k.1 (d.0 t, rest)))
 
 -- one hasn't
-pub never : (P : RStmt → Type 0) (S : Type 0) (xs : List RStmt) (i : ℕ) (x : RStmt) (b : Bool) → i < length xs → x ≡ get_or xs i x → IsTrue b ↔ P x → b ≡ false → S ↔ Each P (drop i xs) → IsTrue false ↔ S
+pub never : (P : RStmt → Type 0) (S : Type 0) (xs : List RStmt) (i : ℕ) (x : RStmt) (b : Bool) → i < length xs → x ≡ get_or xs i x
+    → IsTrue b ↔ P x → b ≡ false → S ↔ Each P (drop i xs) → IsTrue false ↔ S
 never P S xs i x b lt e d f h =
     let k = here P xs i x lt e in
     (λ t. absurd (let k : true ≡ false = sym t in let f : ⊥ = cc in f), λ s. subst IsTrue f (d.1 (k.0 (h.0 s)).0))

@@ -38,6 +38,8 @@ module _ (spans : List Span) (ts us : List Target) (old new : List ℤ) where
   ended_faults (Ok x) y e = finished_alone y e
   ended_faults (Err f) y e = stopped_faults f y e
 
-  pub ended_leaves : {A : Type 0} → (item : ℕ) (r : Result A KernelFault) (y : Ran) → ((f : KernelFault) → ran_of (new ∷ []) r ≡ Stopped (new ∷ []) f → new ≡ old) → EndsInPlace spans ts us old (ran_of (new ∷ []) r) y → new ≡ closed spans (pane_after item (core_of y)) old
+  pub ended_leaves : {A : Type 0} → (item : ℕ) (r : Result A KernelFault) (y : Ran)
+      → ((f : KernelFault) → ran_of (new ∷ []) r ≡ Stopped (new ∷ []) f → new ≡ old) → EndsInPlace spans ts us old (ran_of (new ∷ []) r) y
+      → new ≡ closed spans (pane_after item (core_of y)) old
   ended_leaves item (Ok x) y h e = finished_leaves item y e
   ended_leaves item (Err f) y h e = h f refl ∙ stopped_leaves item f y e

@@ -36,7 +36,8 @@ reaches t x j = ⊎_elim
     (λ (n : t.array ≡ x → ⊥). inr (λ (r : Reaches t x j). n r.2))
     (cases_eq t.array x)
 
-none_reaches : (t : Target) (ts : List Target) (x j : ℕ) → (Reaches t x j → ⊥) → (IsReached ts x j → ⊥) → (a i : ℕ) → i < (target_at (t ∷ ts) a).count → (target_at (t ∷ ts) a).array ≡ x → (target_at (t ∷ ts) a).from + i ≡ j → ⊥
+none_reaches : (t : Target) (ts : List Target) (x j : ℕ) → (Reaches t x j → ⊥) → (IsReached ts x j → ⊥) → (a i : ℕ)
+    → i < (target_at (t ∷ ts) a).count → (target_at (t ∷ ts) a).array ≡ x → (target_at (t ∷ ts) a).from + i ≡ j → ⊥
 none_reaches t ts x j n m zero i lt e f = n (i, lt, e, f)
 none_reaches t ts x j n m (suc a) i lt e f = m (a, i, lt, e, f)
 

@@ -46,7 +46,8 @@ spared_are_kept spans ts ps ws old new e same marked spared = record {
   cells = λ i un. spared.cells i (λ a n lt at. false_from_ne_true (is_written spans ((target_at ts a).from + n)) (λ w. written i un a n lt at w));
 }
   where
-    written : (i : ℕ) → IsUnwritten (place_spans ps ws) i → (a n : ℕ) → n < (target_at ts a).count → (target_at (map target_of ps) a).from + n ≡ i → is_written spans ((target_at ts a).from + n) ≡ true → ⊥
+    written : (i : ℕ) → IsUnwritten (place_spans ps ws) i → (a n : ℕ) → n < (target_at ts a).count
+        → (target_at (map target_of ps) a).from + n ≡ i → is_written spans ((target_at ts a).from + n) ≡ true → ⊥
     written i un a n lt at w =
         let r = in_marks ps ws e a n (subst (λ c. n < c) (same.counts a) lt) in
         false≢true (sym (un r.0 r.1 (r.2 ∙ at)) ∙ r.3 ∙ marked a n lt w)

@@ -87,7 +87,8 @@ saved_before (s ∷ ss) from m f within room i lt =
     saved_before ss (from + s.dim) m (replaced s.writes s.at s.dim from m f) within.1 (omega arith) i (omega arith)
     ∙ replaced_off s.writes s.at s.dim from m f within.0 (omega arith) i (inl lt)
 
-pub saved_at : (ss : List Span) (from : ℕ) (m f : List ℤ) → Within (length m) ss → from + total ss ≤ length f → (j : ℕ) → j < total ss → is_written ss j ≡ true → at (saved_from from m ss f) (from + j) ≡ at m (stands_at ss j)
+pub saved_at : (ss : List Span) (from : ℕ) (m f : List ℤ) → Within (length m) ss → from + total ss ≤ length f → (j : ℕ) → j < total ss
+    → is_written ss j ≡ true → at (saved_from from m ss f) (from + j) ≡ at m (stands_at ss j)
 saved_at [] from m f within room j lt = absurd (omega arith)
 saved_at (s ∷ ss) from m f within room j lt =
     let e : length (replaced s.writes s.at s.dim from m f) ≡ length f = replaced_length s.writes s.at s.dim from m f within.0 (omega arith) in
@@ -106,7 +107,8 @@ are_saved ss m f within room j lt w =
     ap (at (saved_from 0 m ss f)) (sym e) ∙ saved_at ss 0 m f within (omega arith) j lt w
 
 -- saved cells that are put back make the memory what it was
-pub put_back_is : (ss : List Span) (saved first spoiled : List ℤ) → Within (length spoiled) ss → total ss ≤ length saved → AreSaved ss first saved → AreKept ss first spoiled → scattered 0 saved ss spoiled ≡ first
+pub put_back_is : (ss : List Span) (saved first spoiled : List ℤ) → Within (length spoiled) ss → total ss ≤ length saved
+    → AreSaved ss first saved → AreKept ss first spoiled → scattered 0 saved ss spoiled ≡ first
 put_back_is ss saved first spoiled within room are kept =
     scattered_is ss 0 saved spoiled first (sym kept.count) within (omega arith)
     (λ j lt w. let e : 0 + j ≡ j = omega arith in sym (are j lt w) ∙ ap (at saved) (sym e))

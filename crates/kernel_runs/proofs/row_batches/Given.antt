@@ -14,7 +14,9 @@ use Rattle.kernel_runs.specs.RowLoops.{column_at, column_in, scalar_in, column_a
 use Rattle.kernel_runs.proofs.row_batches.Accesses.{same_number}
 
 -- a column's cell in a row is where it was looked up
-pub where_looked_up : (y : RowLoop) (batch : List ℕ) (rows : ℕ) (numbers : List (List ℕ)) → IsWhole y → AreNumbers rows y.ways.now batch numbers → (c l : ℕ) → c < length y.columns.now → l < rows → cells_of numbers (column_at y c) l ≡ column_cell y (slice_index batch l) c
+pub where_looked_up : (y : RowLoop) (batch : List ℕ) (rows : ℕ) (numbers : List (List ℕ)) → IsWhole y
+    → AreNumbers rows y.ways.now batch numbers → (c l : ℕ) → c < length y.columns.now → l < rows
+    → cells_of numbers (column_at y c) l ≡ column_cell y (slice_index batch l) c
 where_looked_up y batch rows numbers whole looked c l c_lt l_lt =
     let e : slice_index (get_or numbers (column_at y c).way []) l ≡ local_in (way_of y c) (slice_index batch l) = looked (column_at y c).way l (whole.ways c c_lt) l_lt in
     let d = (column_at y c).dim in
@@ -38,7 +40,8 @@ pub record IsSetOut (y : RowLoop) (m : List ℤ) (modes : List Mode) (stand : �
   pub memory_fits : (i : ℕ) → FitsSigned w32 (get_or m i (pos 0))
   pub variables_fit : (i : ℕ) → FitsSigned w32 (get_or y.variables.now i (pos 0))
 
-module _ (y : RowLoop) (m : List ℤ) (modes : List Mode) (stand : ℕ → List Place) (batch : List ℕ) (numbers : List (List ℕ)) (frame : List (List ℤ)) (h : IsSetOut y m modes stand batch numbers frame) where
+module _ (y : RowLoop) (m : List ℤ) (modes : List Mode) (stand : ℕ → List Place) (batch : List ℕ) (numbers : List (List ℕ))
+    (frame : List (List ℤ)) (h : IsSetOut y m modes stand batch numbers frame) where
   -- the place of a row
   abbrev pub place : ℕ → ℕ
   place l = slice_index batch l
@@ -62,13 +65,16 @@ module _ (y : RowLoop) (m : List ℤ) (modes : List Mode) (stand : ℕ → List 
   in_row c d l c_lt d_lt ne changes l_lt same = ⊎_elim
       (λ (never : NeverMeet y (length m) modes stand batch h.rows c d). never l l l_lt l_lt same)
       (λ (r : ReduceApart y c d). tested c d l c_lt d_lt l_lt r
-      (same_number (column_at y c).cell (column_at y d).cell (column_at y c).dim (column_at y d).dim (local_in (way_of y c) (place l)) (local_in (way_of y d) (place l)) r.cell r.dim (h.runs.dims c c_lt) same))
+      (same_number (column_at y c).cell (column_at y d).cell (column_at y c).dim (column_at y d).dim (local_in (way_of y c) (place l))
+          (local_in (way_of y d) (place l)) r.cell r.dim (h.runs.dims c c_lt) same))
       (h.runs.apart c d c_lt d_lt ne changes)
 
   -- a column that is stored to has different cells in two rows
-  pub in_rows : (c i l : ℕ) → c < length y.columns.now → (column_access y c ≡ OpWrite) ⊎ (column_access y c ≡ OpRw) → i < h.rows → l < h.rows → i ≢ l → column_cell y (place i) c ≢ column_cell y (place l) c
+  pub in_rows : (c i l : ℕ) → c < length y.columns.now → (column_access y c ≡ OpWrite) ⊎ (column_access y c ≡ OpRw) → i < h.rows
+      → l < h.rows → i ≢ l → column_cell y (place i) c ≢ column_cell y (place l) c
   in_rows c i l c_lt how i_lt l_lt ne same =
       let direct = h.runs.stored c c_lt how in
-      let numbers_same = same_number (column_at y c).cell (column_at y c).cell (column_at y c).dim (column_at y c).dim (local_in (way_of y c) (place i)) (local_in (way_of y c) (place l)) refl refl (h.runs.dims c c_lt) same in
+      let numbers_same = same_number (column_at y c).cell (column_at y c).cell (column_at y c).dim (column_at y c).dim
+          (local_in (way_of y c) (place i)) (local_in (way_of y c) (place l)) refl refl (h.runs.dims c c_lt) same in
       h.differ direct.1 i l i_lt l_lt ne
       (sym (ap (λ w. local_in w (place i)) direct.0) ∙ numbers_same ∙ ap (λ w. local_in w (place l)) direct.0)

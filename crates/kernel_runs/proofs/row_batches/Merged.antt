@@ -103,14 +103,17 @@ module _ (laws : (r : Reduction) → IsCommuting (unit_of r) (merged r)) where
       (λ (ne : slot ≡ slot' → ⊥). two_slots (operation how) (operation how') slot slot' v w p ne)
       (cases_eq slot slot')
 
-  past_amounts : (x : Scalar) (v : ℤ) (xs : List Scalar) (ws p : List ℤ) → ((j : ℕ) → j < length xs → MergeAlike x (scalar_in xs j)) → InSlots (length p) x → amount x v (amounts xs ws p) ≡ amounts xs ws (amount x v p)
+  past_amounts : (x : Scalar) (v : ℤ) (xs : List Scalar) (ws p : List ℤ) → ((j : ℕ) → j < length xs → MergeAlike x (scalar_in xs j))
+      → InSlots (length p) x → amount x v (amounts xs ws p) ≡ amounts xs ws (amount x v p)
   past_amounts x v [] ws p alike inside = refl
   past_amounts x v (z ∷ xs) [] p alike inside = refl
   past_amounts x v (z ∷ xs) (w ∷ ws) p alike inside =
       past_amounts x v xs ws (amount z w p) (λ j lt. alike (suc j) (omega arith)) (in_as_many (length p) (length (amount z w p)) x (sym (long_one z w p)) inside)
       ∙ ap (amounts xs ws) (swap x z v w p (alike 0 (omega arith)) inside)
 
-  past_rows : (x : Scalar) (v : ℤ) (xs : List Scalar) (cs : List (List ℤ)) (n : ℕ) (p : List ℤ) → ((j : ℕ) → j < length xs → MergeAlike x (scalar_in xs j)) → InSlots (length p) x → amount x v (rows_merged xs cs n p) ≡ rows_merged xs cs n (amount x v p)
+  past_rows : (x : Scalar) (v : ℤ) (xs : List Scalar) (cs : List (List ℤ)) (n : ℕ) (p : List ℤ)
+      → ((j : ℕ) → j < length xs → MergeAlike x (scalar_in xs j)) → InSlots (length p) x
+      → amount x v (rows_merged xs cs n p) ≡ rows_merged xs cs n (amount x v p)
   past_rows x v xs cs zero p alike inside = refl
   past_rows x v xs cs (suc n) p alike inside =
       past_amounts x v xs (row n cs) (rows_merged xs cs n p) alike (in_as_many (length p) (length (rows_merged xs cs n p)) x (sym (long_rows xs cs n p)) inside)
@@ -146,18 +149,25 @@ module _ (laws : (r : Reduction) → IsCommuting (unit_of r) (merged r)) where
   no_columns x xs zero p = refl
   no_columns x xs (suc n) p = no_columns x xs n p
 
-  by_columns : (n : ℕ) (xs : List Scalar) (cs : List (List ℤ)) (p : List ℤ) → ((i j : ℕ) → i < length xs → j < length xs → MergeAlike (scalar_in xs i) (scalar_in xs j)) → Merges (length p) xs → all_in n xs cs p ≡ rows_merged xs cs n p
+  by_columns : (n : ℕ) (xs : List Scalar) (cs : List (List ℤ)) (p : List ℤ)
+      → ((i j : ℕ) → i < length xs → j < length xs → MergeAlike (scalar_in xs i) (scalar_in xs j)) → Merges (length p) xs
+      → all_in n xs cs p ≡ rows_merged xs cs n p
   by_columns n [] cs p alike inside = sym (no_scalars cs n p)
   by_columns n (x ∷ xs) [] p alike inside = sym (no_columns x xs n p)
   by_columns n (x ∷ xs) (c ∷ cs) p alike inside =
-      by_columns n xs cs (total_in n x c p) (λ i j i_lt j_lt. alike (suc i) (suc j) (omega arith) (omega arith)) (all_in_as_many (length p) (length (total_in n x c p)) xs (sym (long_total n x c p)) inside.1)
+      by_columns n xs cs (total_in n x c p) (λ i j i_lt j_lt. alike (suc i) (suc j) (omega arith) (omega arith))
+          (all_in_as_many (length p) (length (total_in n x c p)) xs (sym (long_total n x c p)) inside.1)
       ∙ column_first x xs c cs p (λ j lt. alike 0 (suc j) (omega arith) (omega arith)) inside.0 n
 
-  pub totals_by_rows : (n : ℕ) (xs : List Scalar) (cs : List (List ℤ)) (p : List ℤ) → ((i j : ℕ) → i < length xs → j < length xs → MergeAlike (scalar_in xs i) (scalar_in xs j)) → Merges (length p) xs → totals n xs cs p ≡ rows_merged xs cs n p
+  pub totals_by_rows : (n : ℕ) (xs : List Scalar) (cs : List (List ℤ)) (p : List ℤ)
+      → ((i j : ℕ) → i < length xs → j < length xs → MergeAlike (scalar_in xs i) (scalar_in xs j)) → Merges (length p) xs
+      → totals n xs cs p ≡ rows_merged xs cs n p
   totals_by_rows n xs cs p alike inside = all_totals n xs cs p ∙ by_columns n xs cs p alike inside
 
 -- amounts from two lists that agree where scalars are amounts
-pub amounts_agree : (xs : List Scalar) (ws us p : List ℤ) → length xs ≤ length ws → length xs ≤ length us → ((j : ℕ) → j < length xs → (AllowsScalar (scalar_in xs j) OpRead → ⊥) → get_or ws j (pos 0) ≡ get_or us j (pos 0)) → amounts xs ws p ≡ amounts xs us p
+pub amounts_agree : (xs : List Scalar) (ws us p : List ℤ) → length xs ≤ length ws → length xs ≤ length us
+    → ((j : ℕ) → j < length xs → (AllowsScalar (scalar_in xs j) OpRead → ⊥) → get_or ws j (pos 0) ≡ get_or us j (pos 0))
+    → amounts xs ws p ≡ amounts xs us p
 amounts_agree [] ws us p a b same = refl
 amounts_agree (x ∷ xs) [] us p a b same = absurd (omega arith)
 amounts_agree (x ∷ xs) (w ∷ ws) [] p a b same = absurd (omega arith)

@@ -97,7 +97,8 @@ scalar_changes : (x : Scalar) → scalar_access x ≢ OpRead → AllowsScalar x 
 scalar_changes (Value at) ne a = ne refl
 scalar_changes (Amount at slot how) ne a = let h : OpRead ≡ OpReduce (operation how) = a in cc
 
-module _ (y : RowLoop) (m : List ℤ) (modes : List Mode) (stand : ℕ → List Place) (batch : List ℕ) (numbers : List (List ℕ)) (frame : List (List ℤ)) (h : IsSetOut y m modes stand batch numbers frame) (after : List (List ℤ)) where
+module _ (y : RowLoop) (m : List ℤ) (modes : List Mode) (stand : ℕ → List Place) (batch : List ℕ) (numbers : List (List ℕ))
+    (frame : List (List ℤ)) (h : IsSetOut y m modes stand batch numbers frame) (after : List (List ℤ)) where
   abbrev n_of : ℕ
   n_of = length y.columns.now
 
@@ -202,7 +203,9 @@ module _ (y : RowLoop) (m : List ℤ) (modes : List Mode) (stand : ℕ → List 
   nth_of : (k : ℕ) → k < most → (nth k < width y) × (acc (nth k) ≢ OpRead)
   nth_of k lt = let f = picked is_put (width y) k lt in (f.0, not_read (acc (nth k)) f.1)
 
-  each_move : (l k : ℕ) → l < h.rows → k < most → (a : ℕ) × (i : ℕ) × (i < dim modes a) × IsMove (access modes a) (all_moves k l) ((target_at (mt y m modes stand batch numbers frame h l) a).from + i) (read_arg (ft y m modes stand batch numbers frame h) (row l after ∷ []) a i)
+  each_move : (l k : ℕ) → l < h.rows → k < most → (a : ℕ) × (i : ℕ) × (i < dim modes a)
+      × IsMove (access modes a) (all_moves k l) ((target_at (mt y m modes stand batch numbers frame h l) a).from + i)
+      (read_arg (ft y m modes stand batch numbers frame h) (row l after ∷ []) a i)
   each_move l k l_lt lt =
       let c = nth k in
       let is = nth_of k lt in
@@ -220,7 +223,8 @@ module _ (y : RowLoop) (m : List ℤ) (modes : List Mode) (stand : ℕ → List 
             (is_move (acc c) (access modes f.0) (mem l c) (at_row l (get_or after c [])) may f.3)),
       )
 
-  find_move : (l a i : ℕ) → l < h.rows → i < dim modes a → access modes a ≢ OpRead → (k : ℕ) × (k < most) × (cell_of (all_moves k l) ≡ (target_at (mt y m modes stand batch numbers frame h l) a).from + i)
+  find_move : (l a i : ℕ) → l < h.rows → i < dim modes a → access modes a ≢ OpRead → (k : ℕ) × (k < most)
+      × (cell_of (all_moves k l) ≡ (target_at (mt y m modes stand batch numbers frame h l) a).from + i)
   find_move l a i l_lt i_lt changes =
       let p = stands y m modes stand batch numbers frame h l a i l_lt i_lt in
       let c = fcol y m modes stand batch numbers frame h a i in

@@ -40,7 +40,8 @@ more_columns_put : (move : ℕ → ℕ → Change) (c n : ℕ) (m : List ℤ) �
 unfolding put_by_columns
 more_columns_put move c n m = refl
 
-module _ (y : RowLoop) (m : List ℤ) (modes : List Mode) (stand : ℕ → List Place) (batch : List ℕ) (numbers : List (List ℕ)) (frame : List (List ℤ)) (h : IsSetOut y m modes stand batch numbers frame) (after : List (List ℤ)) where
+module _ (y : RowLoop) (m : List ℤ) (modes : List Mode) (stand : ℕ → List Place) (batch : List ℕ) (numbers : List (List ℕ))
+    (frame : List (List ℤ)) (h : IsSetOut y m modes stand batch numbers frame) (after : List (List ℤ)) where
   abbrev moves : ℕ → ℕ → Change
   moves = all_moves y m modes stand batch numbers frame h after
 
@@ -50,7 +51,8 @@ module _ (y : RowLoop) (m : List ℤ) (modes : List Mode) (stand : ℕ → List 
   -- ---- the memory
 
   -- the change of a column, by its access
-  is_change : (c l : ℕ) (a : Access) → c < length y.columns.now → l < h.rows → column_access y c ≡ a → put c ≡ true → moves (count put c) l ≡ change_by a (cells_of numbers (column_at y c) l) (at_row l (get_or after c []))
+  is_change : (c l : ℕ) (a : Access) → c < length y.columns.now → l < h.rows → column_access y c ≡ a → put c ≡ true
+      → moves (count put c) l ≡ change_by a (cells_of numbers (column_at y c) l) (at_row l (get_or after c []))
   is_change c l a c_lt l_lt by is =
       ap (λ d. move y m modes stand batch numbers frame h after d l) (pick_of put (width y) c (omega arith) is)
       ∙ ap (λ z. change_by z (mem y m modes stand batch numbers frame h after l c) (at_row l (get_or after c []))) (acc_column y m modes stand batch numbers frame h after c c_lt ∙ by)
@@ -60,7 +62,9 @@ module _ (y : RowLoop) (m : List ℤ) (modes : List Mode) (stand : ℕ → List 
   puts c a lt by is = ap modifies (acc_column y m modes stand batch numbers frame h after c lt ∙ by) ∙ is
 
   module _ (law : ColumnsArePut) where
-    one_column : (c : ℕ) (a : Access) (z : List ℤ) → c < length y.columns.now → column_access y c ≡ a → put_by_columns moves (count put c) h.rows m ≡ z → put_back_for numbers h.rows a (column_at y c) (get_or after c []) z ≡ put_by_columns moves (count put (suc c)) h.rows m
+    one_column : (c : ℕ) (a : Access) (z : List ℤ) → c < length y.columns.now → column_access y c ≡ a
+        → put_by_columns moves (count put c) h.rows m ≡ z → put_back_for numbers h.rows a (column_at y c) (get_or after c []) z ≡
+        put_by_columns moves (count put (suc c)) h.rows m
     one_column c OpRead z lt by e =
         sym e ∙ ap (λ n. put_by_columns moves n h.rows m) (sym (skipped put c (ap modifies (acc_column y m modes stand batch numbers frame h after c lt ∙ by))))
     one_column c OpWrite z lt by e =
@@ -92,14 +96,19 @@ module _ (y : RowLoop) (m : List ℤ) (modes : List Mode) (stand : ℕ → List 
   module _ (laws : (r : Reduction) → IsCommuting (unit_of r) (merged r)) (long : width y ≤ length after) (fits : (c l : ℕ) → FitsSigned w32 (at_row l (get_or after c []))) where
     abbrev Row : ℕ → List ℤ → List ℤ → Type 0
     Row l between new =
-        RunsRow y.code.now.kernel.now modes y.constants.now (ft y m modes stand batch numbers frame h) (behind y m modes stand batch numbers frame h) (mt y m modes stand batch numbers frame h l) (row l after) between new
+        RunsRow y.code.now.kernel.now modes y.constants.now (ft y m modes stand batch numbers frame h)
+            (behind y m modes stand batch numbers frame h) (mt y m modes stand batch numbers frame h l) (row l after) between new
 
-    one_amount : (l : ℕ) (between new : List ℤ) → l < h.rows → length between ≡ length m → (one : Row l between new) → (j : ℕ) → j < length y.scalars.now → (AllowsScalar (scalar_at y j) OpRead → ⊥) → get_or (row l columns_behind) j (pos 0) ≡ get_or (drop (length between) one.after) j (pos 0)
+    one_amount : (l : ℕ) (between new : List ℤ) → l < h.rows → length between ≡ length m → (one : Row l between new) → (j : ℕ)
+        → j < length y.scalars.now → (AllowsScalar (scalar_at y j) OpRead → ⊥)
+        → get_or (row l columns_behind) j (pos 0) ≡ get_or (drop (length between) one.after) j (pos 0)
     one_amount l between new l_lt size one j j_lt changes =
         let f = h.runs.amounts j j_lt changes in
         by f.0 f.1 f.2 f.3 f.4 (stands y m modes stand batch numbers frame h l f.0 f.1 l_lt f.2)
       where
-        by : (a i : ℕ) → i < dim modes a → access modes a ≢ OpRead → in_frame y (length m) modes stand batch a i ≡ length y.columns.now + j → Stands y m modes stand batch numbers frame h l a i → get_or (row l columns_behind) j (pos 0) ≡ get_or (drop (length between) one.after) j (pos 0)
+        by : (a i : ℕ) → i < dim modes a → access modes a ≢ OpRead → in_frame y (length m) modes stand batch a i ≡ length y.columns.now + j
+            → Stands y m modes stand batch numbers frame h l a i
+            → get_or (row l columns_behind) j (pos 0) ≡ get_or (drop (length between) one.after) j (pos 0)
         by a i i_lt ne here (inl d) = absurd (omega (arith, d.few, here))
         by a i i_lt ne here (inr v) =
             let e : v.number ≡ j = omega (arith, v.column, here) in
@@ -117,33 +126,42 @@ module _ (y : RowLoop) (m : List ℤ) (modes : List Mode) (stand : ℕ → List 
             ∙ ap (λ k. get_or one.after k (pos 0)) (sym place)
             ∙ sym (in_the_memory y m modes stand batch numbers frame h one.after l a i)
             ∙ one.put.amounts r.0 a i i_lt r.1
-            ∙ ap (λ k. merged r.0 k (read_arg (ft y m modes stand batch numbers frame h) (row l after ∷ []) a i)) (in_the_memory y m modes stand batch numbers frame h (between ++ behind y m modes stand batch numbers frame h) l a i ∙ ap (λ k. get_or (between ++ behind y m modes stand batch numbers frame h) k (pos 0)) place ∙ old)
+            ∙ ap (λ k. merged r.0 k (read_arg (ft y m modes stand batch numbers frame h) (row l after ∷ []) a i))
+                (in_the_memory y m modes stand batch numbers frame h (between ++ behind y m modes stand batch numbers frame h) l a i
+                ∙ ap (λ k. get_or (between ++ behind y m modes stand batch numbers frame h) k (pos 0)) place ∙ old)
             ∙ ap (merged r.0 (unit_of r.0)) value)
 
     abbrev Rows : ℕ → List ℤ → Type 0
     Rows n new =
-        OneByOne y.code.now.kernel.now modes y.constants.now (ft y m modes stand batch numbers frame h) (behind y m modes stand batch numbers frame h) (mt y m modes stand batch numbers frame h) (λ l. row l after) n m new
+        OneByOne y.code.now.kernel.now modes y.constants.now (ft y m modes stand batch numbers frame h)
+            (behind y m modes stand batch numbers frame h) (mt y m modes stand batch numbers frame h) (λ l. row l after) n m new
 
-    same_amounts : (l : ℕ) (between new p : List ℤ) → l < h.rows → length between ≡ length m → (one : Row l between new) → amounts y.scalars.now (row l columns_behind) p ≡ amounts y.scalars.now (drop (length between) one.after) p
+    same_amounts : (l : ℕ) (between new p : List ℤ) → l < h.rows → length between ≡ length m → (one : Row l between new)
+        → amounts y.scalars.now (row l columns_behind) p ≡ amounts y.scalars.now (drop (length between) one.after) p
     same_amounts l between new p l_lt size one =
         let count : length (row l columns_behind) ≡ length after - length y.columns.now = length-map columns_behind (at_row l) ∙ length-drop (length y.columns.now) after in
         let left : length (drop (length between) one.after) ≡ length one.after - length between = length-drop (length between) one.after in
-        let whole : length (between ++ behind y m modes stand batch numbers frame h) ≡ length between + length (behind y m modes stand batch numbers frame h) = length-append between (behind y m modes stand batch numbers frame h) in
-        let all : length (m ++ behind y m modes stand batch numbers frame h) ≡ length m + length (behind y m modes stand batch numbers frame h) = length-append m (behind y m modes stand batch numbers frame h) in
+        let whole : length (between ++ behind y m modes stand batch numbers frame h) ≡ length between + length
+            (behind y m modes stand batch numbers frame h) = length-append between (behind y m modes stand batch numbers frame h) in
+        let all : length (m ++ behind y m modes stand batch numbers frame h) ≡ length m + length
+            (behind y m modes stand batch numbers frame h) = length-append m (behind y m modes stand batch numbers frame h) in
         amounts_agree y.scalars.now (row l columns_behind) (drop (length between) one.after) p
         (omega (arith, count, long))
         (omega (arith, left, one.put.count, whole, all, all_long y m modes stand batch numbers frame h))
         (λ j lt changes. one_amount l between new l_lt size one j lt changes)
 
     -- what runs one row after another runs so with the partials
-    with_partials : (p : List ℤ) (n : ℕ) (new : List ℤ) → n ≤ h.rows → Rows n new → RowsRun y.code.now.kernel.now y.constants.now (behind y m modes stand batch numbers frame h) y.scalars.now (mt y m modes stand batch numbers frame h) n m new p (rows_merged y.scalars.now columns_behind n p) × (length new ≡ length m)
+    with_partials : (p : List ℤ) (n : ℕ) (new : List ℤ) → n ≤ h.rows → Rows n new
+        → RowsRun y.code.now.kernel.now y.constants.now (behind y m modes stand batch numbers frame h) y.scalars.now
+        (mt y m modes stand batch numbers frame h) n m new p (rows_merged y.scalars.now columns_behind n p) × (length new ≡ length m)
     unfolding RowsRun
     with_partials p zero new le same = ((same, refl), ap length same)
     with_partials p (suc n) new le rows =
         let between = rows.0 in
         let one = rows.2 in
         let before = with_partials p n between (omega arith) rows.1 in
-        let whole : length (between ++ behind y m modes stand batch numbers frame h) ≡ length between + length (behind y m modes stand batch numbers frame h) = length-append between (behind y m modes stand batch numbers frame h) in
+        let whole : length (between ++ behind y m modes stand batch numbers frame h) ≡ length between + length
+            (behind y m modes stand batch numbers frame h) = length-append between (behind y m modes stand batch numbers frame h) in
         let size : length (take (length between) one.after) ≡ length between = length-take-le (length between) one.after (omega (arith, one.put.count, whole)) in (
           (
             between,
@@ -160,19 +178,28 @@ module _ (y : RowLoop) (m : List ℤ) (modes : List Mode) (stand : ℕ → List 
           ap length one.cells ∙ size ∙ before.1,
         )
 
-    module _ (batches : BatchesRun) (columns : ColumnsArePut) (resolved : IsResolved (length y.constants.now) y.code.now.kernel.now) (consts_fit : (j : ℕ) → FitsSigned w32 (get_or y.constants.now j (pos 0))) (ran : (l : ℕ) → l < h.rows → kernel_meaning (ft y m modes stand batch numbers frame h) y.constants.now y.code.now.kernel.now (row l frame ∷ []) ≡ Finished (row l after ∷ [])) where
+    module _ (batches : BatchesRun) (columns : ColumnsArePut) (resolved : IsResolved (length y.constants.now) y.code.now.kernel.now)
+        (consts_fit : (j : ℕ) → FitsSigned w32 (get_or y.constants.now j (pos 0)))
+        (ran : (l : ℕ) → l < h.rows → kernel_meaning (ft y m modes stand batch numbers frame h) y.constants.now y.code.now.kernel.now
+        (row l frame ∷ []) ≡ Finished (row l after ∷ [])) where
       abbrev put_as : ℕ → List ℤ
       put_as n = put_by_columns moves (inner y m modes stand batch numbers frame h after) n m
 
       -- n rows, of which there are as many as are meant
       rows_ran : (n : ℕ) → n ≡ h.rows → Rows n (put_as n)
       rows_ran n e =
-          batches y.code.now.kernel.now modes y.constants.now (ft y m modes stand batch numbers frame h) (behind y m modes stand batch numbers frame h) (mt y m modes stand batch numbers frame h) (λ l. row l frame) (λ l. row l after) n m moves (inner y m modes stand batch numbers frame h after) (most y m modes stand batch numbers frame h after) resolved h.runs.obeys consts_fit (in_range y m modes stand batch numbers frame h)
+          batches y.code.now.kernel.now modes y.constants.now (ft y m modes stand batch numbers frame h)
+              (behind y m modes stand batch numbers frame h) (mt y m modes stand batch numbers frame h) (λ l. row l frame)
+              (λ l. row l after) n m moves (inner y m modes stand batch numbers frame h after)
+              (most y m modes stand batch numbers frame h after) resolved h.runs.obeys consts_fit
+              (in_range y m modes stand batch numbers frame h)
           (subst (λ k. RowsApart modes (mt y m modes stand batch numbers frame h) k (length m)) (sym e) (rows_apart y m modes stand batch numbers frame h))
           (λ l lt. stands_for y m modes stand batch numbers frame h l (omega (arith, lt, e)))
           (λ l lt. ran l (omega (arith, lt, e)))
           (λ l lt. are_moves y m modes stand batch numbers frame h after l (omega (arith, lt, e)))
-          (subst (λ k. AreColumns moves (inner y m modes stand batch numbers frame h after) (most y m modes stand batch numbers frame h after) k (length m)) (sym e) (are_columns y m modes stand batch numbers frame h after))
+          (subst (λ k. AreColumns moves (inner y m modes stand batch numbers frame h after)
+              (most y m modes stand batch numbers frame h after) k (length m)) (sym e)
+              (are_columns y m modes stand batch numbers frame h after))
 
       abbrev Ran : ℕ → (new p q : List ℤ) → Type 0
       Ran n new p q =
@@ -181,7 +208,8 @@ module _ (y : RowLoop) (m : List ℤ) (modes : List Mode) (stand : ℕ → List 
       some_ran : (p : List ℤ) (n : ℕ) → n ≡ h.rows → Ran n (put_as n) p (rows_merged y.scalars.now columns_behind n p)
       some_ran p n e = (with_partials p n (put_as n) (omega (arith, e)) (rows_ran n e)).0
 
-      pub batch_ran : (new p q : List ℤ) → new ≡ put_back numbers h.rows y.columns.now after (length y.columns.now) m → q ≡ totals h.rows y.scalars.now columns_behind p → Merges (length p) y.scalars.now → Ran h.rows new p q
+      pub batch_ran : (new p q : List ℤ) → new ≡ put_back numbers h.rows y.columns.now after (length y.columns.now) m
+          → q ≡ totals h.rows y.scalars.now columns_behind p → Merges (length p) y.scalars.now → Ran h.rows new p q
       batch_ran new p q is_new is_q slots =
           let same_new : put_as h.rows ≡ new = sym (is_new ∙ put_as_moves columns (length y.columns.now) (omega arith)) in
           let same_q : rows_merged y.scalars.now columns_behind h.rows p ≡ q = sym (is_q ∙ totals_by_rows laws h.rows y.scalars.now columns_behind p h.runs.alike slots) in

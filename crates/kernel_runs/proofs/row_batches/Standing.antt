@@ -53,7 +53,8 @@ reads_value : (x : Scalar) (own other : Access) (r : Reduction) → AllowsScalar
 reads_value (Value at) own other r a e b = let h : OpRead ≡ OpReduce r = sym a ∙ e in absurd cc
 reads_value (Amount at slot how) own other r a e b = b ∙ sym a ∙ e
 
-module _ (y : RowLoop) (m : List ℤ) (modes : List Mode) (stand : ℕ → List Place) (batch : List ℕ) (numbers : List (List ℕ)) (frame : List (List ℤ)) (h : IsSetOut y m modes stand batch numbers frame) where
+module _ (y : RowLoop) (m : List ℤ) (modes : List Mode) (stand : ℕ → List Place) (batch : List ℕ) (numbers : List (List ℕ))
+    (frame : List (List ℤ)) (h : IsSetOut y m modes stand batch numbers frame) where
   abbrev x_of : ℕ → ℕ
   x_of l = slice_index batch l
 
@@ -102,7 +103,8 @@ module _ (y : RowLoop) (m : List ℤ) (modes : List Mode) (stand : ℕ → List 
 
   first_fits : (j : ℕ) → FitsSigned w32 (get_or behind j (pos 0))
   first_fits j = ⊎_elim
-      (λ (lt : j < length y.scalars.now). subst (FitsSigned w32) (sym (first_at y.variables.now y.scalars.now j lt)) (subst (FitsSigned w32) (h.firsts j 0 lt h.some) (h.fits (length y.columns.now + j) 0)))
+      (λ (lt : j < length y.scalars.now). subst (FitsSigned w32) (sym (first_at y.variables.now y.scalars.now j lt))
+          (subst (FitsSigned w32) (h.firsts j 0 lt h.some) (h.fits (length y.columns.now + j) 0)))
       (λ (le : length y.scalars.now ≤ j). past behind j (omega (arith, le, firsts_length y.variables.now y.scalars.now)))
       (cases_lt j (length y.scalars.now))
     where
@@ -135,7 +137,9 @@ module _ (y : RowLoop) (m : List ℤ) (modes : List Mode) (stand : ℕ → List 
   other_stand : (l a i b j : ℕ) → l < h.rows → access modes a ≢ OpRead → Stands l a i → Stands l b j → mcell l a i ≡ mcell l b j → fcol a i ≡ fcol b j
   other_stand l a i b j l_lt changes (inl d) (inl e) same = ⊎_elim
       (λ (q : fcol a i ≡ fcol b j). q)
-      (λ (ne : fcol a i ≡ fcol b j → ⊥). absurd (in_row y m modes stand batch numbers frame h (fcol a i) (fcol b j) l d.few e.few ne (changing (column_access y (fcol a i)) (access modes a) d.allows changes) l_lt (sym d.cell ∙ same ∙ e.cell)))
+      (λ (ne : fcol a i ≡ fcol b j → ⊥). absurd
+          (in_row y m modes stand batch numbers frame h (fcol a i) (fcol b j) l d.few e.few ne
+          (changing (column_access y (fcol a i)) (access modes a) d.allows changes) l_lt (sym d.cell ∙ same ∙ e.cell)))
       (cases_eq (fcol a i) (fcol b j))
   other_stand l a i b j l_lt changes (inl d) (inr v) same = absurd (omega (arith, inside l (fcol a i) l_lt d.few, d.cell, v.cell, same))
   other_stand l a i b j l_lt changes (inr v) (inl d) same = absurd (omega (arith, inside l (fcol b j) l_lt d.few, d.cell, v.cell, same))
@@ -151,7 +155,8 @@ module _ (y : RowLoop) (m : List ℤ) (modes : List Mode) (stand : ℕ → List 
 
   -- ---- what the frames begin with
 
-  column_input : (c l : ℕ) → c < length y.columns.now → l < h.rows → (column_access y c ≡ OpRead) ⊎ (column_access y c ≡ OpRw) → at_row l (get_or frame c []) ≡ get_or m (column_cell y (x_of l) c) (pos 0)
+  column_input : (c l : ℕ) → c < length y.columns.now → l < h.rows → (column_access y c ≡ OpRead) ⊎ (column_access y c ≡ OpRw)
+      → at_row l (get_or frame c []) ≡ get_or m (column_cell y (x_of l) c) (pos 0)
   column_input c l c_lt l_lt how =
       kinds how ∙ ap (λ k. get_or m k (pos 0)) (looked_up y m modes stand batch numbers frame h c l c_lt l_lt)
     where
@@ -174,7 +179,8 @@ module _ (y : RowLoop) (m : List ℤ) (modes : List Mode) (stand : ℕ → List 
 
   unit : (r : Reduction) (l a i : ℕ) → l < h.rows → access modes a ≡ OpReduce r → Stands l a i → at_row l (get_or frame (fcol a i) []) ≡ unit_of r
   unit r l a i l_lt by (inl d) =
-      subst (λ acc. FilledFor numbers h.rows acc m (column_at y (fcol a i)) (get_or frame (fcol a i) [])) (reducing (column_access y (fcol a i)) (access modes a) r d.allows by) (h.filled (fcol a i) d.few) l l_lt
+      subst (λ acc. FilledFor numbers h.rows acc m (column_at y (fcol a i)) (get_or frame (fcol a i) []))
+          (reducing (column_access y (fcol a i)) (access modes a) r d.allows by) (h.filled (fcol a i) d.few) l l_lt
   unit r l a i l_lt by (inr v) =
       ap (λ c. at_row l (get_or frame c [])) v.column
       ∙ h.firsts v.number l v.few l_lt
@@ -220,13 +226,15 @@ module _ (y : RowLoop) (m : List ℤ) (modes : List Mode) (stand : ℕ → List 
 
   -- ---- no row reads what another one modifies
 
-  apart_at : (i l a b x z : ℕ) → i < h.rows → l < h.rows → i ≢ l → access modes a ≢ OpRead → (access modes b ≡ OpRead) ⊎ (access modes b ≡ OpRw) → mcell l b z < length m → Stands i a x → Stands l b z → mcell i a x ≢ mcell l b z
+  apart_at : (i l a b x z : ℕ) → i < h.rows → l < h.rows → i ≢ l → access modes a ≢ OpRead → (access modes b ≡ OpRead)
+      ⊎ (access modes b ≡ OpRw) → mcell l b z < length m → Stands i a x → Stands l b z → mcell i a x ≢ mcell l b z
   apart_at i l a b x z i_lt l_lt ne changes how lt (inr v) q same = omega (arith, v.cell, lt, same)
   apart_at i l a b x z i_lt l_lt ne changes how lt (inl d) (inr v) same = omega (arith, v.cell, lt)
   apart_at i l a b x z i_lt l_lt ne changes how lt (inl d) (inl e) same =
       columns (fcol a x) (fcol b z) d.few e.few d.allows e.allows (sym d.cell ∙ same ∙ e.cell)
     where
-      columns : (c k : ℕ) → c < length y.columns.now → k < length y.columns.now → Allows (column_access y c) (access modes a) → Allows (column_access y k) (access modes b) → column_cell y (x_of i) c ≡ column_cell y (x_of l) k → ⊥
+      columns : (c k : ℕ) → c < length y.columns.now → k < length y.columns.now → Allows (column_access y c) (access modes a)
+          → Allows (column_access y k) (access modes b) → column_cell y (x_of i) c ≡ column_cell y (x_of l) k → ⊥
       columns c k c_lt k_lt c_allows k_allows meet = ⊎_elim
           (λ (q : c ≡ k).
           let rw = both_ways (column_access y c) (access modes a) (access modes b) c_allows changes (subst (λ n. Allows (column_access y n) (access modes b)) (sym q) k_allows) how in

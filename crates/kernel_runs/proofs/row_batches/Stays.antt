@@ -16,7 +16,8 @@ stored_stays stands column (suc n) m k off =
     get_or-set_other (stored stands column n m) (stands n) k (at_row n column) (pos 0) (λ e. off n (omega arith) (sym e))
     ∙ stored_stays stands column n m k (λ l lt. off l (omega (arith, lt)))
 
-merged_stays : (stands : ℕ → ℕ) (column : List ℤ) (r : Reduction) (n : ℕ) (m : List ℤ) (k : ℕ) → ((l : ℕ) → l < n → stands l ≢ k) → get_or (merged_in stands column r n m) k (pos 0) ≡ get_or m k (pos 0)
+merged_stays : (stands : ℕ → ℕ) (column : List ℤ) (r : Reduction) (n : ℕ) (m : List ℤ) (k : ℕ) → ((l : ℕ) → l < n → stands l ≢ k)
+    → get_or (merged_in stands column r n m) k (pos 0) ≡ get_or m k (pos 0)
 unfolding merged_in
 merged_stays stands column r zero m k off = refl
 merged_stays stands column r (suc n) m k off =
@@ -24,7 +25,9 @@ merged_stays stands column r (suc n) m k off =
     get_or-set_other before (stands n) k (merged r (get_or before (stands n) (pos 0)) (at_row n column)) (pos 0) (λ e. off n (omega arith) (sym e))
     ∙ merged_stays stands column r n m k (λ l lt. off l (omega (arith, lt)))
 
-column_stays : (numbers : List (List ℕ)) (rows : ℕ) (a : Access) (y : RowColumn) (column m : List ℤ) (k : ℕ) → (a ≢ OpRead → (l : ℕ) → l < rows → cells_of numbers y l ≢ k) → get_or (put_back_for numbers rows a y column m) k (pos 0) ≡ get_or m k (pos 0)
+column_stays : (numbers : List (List ℕ)) (rows : ℕ) (a : Access) (y : RowColumn) (column m : List ℤ) (k : ℕ)
+    → (a ≢ OpRead → (l : ℕ) → l < rows → cells_of numbers y l ≢ k)
+    → get_or (put_back_for numbers rows a y column m) k (pos 0) ≡ get_or m k (pos 0)
 column_stays numbers rows OpRead y column m k off = refl
 column_stays numbers rows OpWrite y column m k off =
     stored_stays (cells_of numbers y) column rows m k (off (λ e. cc))

@@ -8,7 +8,8 @@ use Rattle.mesh_decl.specs.Mesh.{MeshValue, map_count, set_size, map_from, map_t
 use Rattle.mesh_decl.specs.Owners.{owner_of}
 use Rattle.local_mesh.specs.Halo.{reaches_by, reaches, owns, imports_execute, executes, named_by, named_from, named, imports_nonexecute, imports, has_copy, is_core}
 
-pub reaches_witness : (g : MeshValue) (o : Owners) (s x r : ℕ) → reaches g o s x r ≡ true → (m : ℕ) × (i : ℕ) × (m < map_count g) × (map_from g m ≡ s) × (i < map_dim g m) × (owner_of o (map_to g m) (target g m x i) ≡ r)
+pub reaches_witness : (g : MeshValue) (o : Owners) (s x r : ℕ) → reaches g o s x r ≡ true → (m : ℕ) × (i : ℕ) × (m < map_count g)
+    × (map_from g m ≡ s) × (i < map_dim g m) × (owner_of o (map_to g m) (target g m x i) ≡ r)
 unfolding reaches
 reaches_witness g o s x r t =
     let m = any_witness (map_count g) (λ m. nat_eq (map_from g m) s && reaches_by g o m x r) t in
@@ -22,20 +23,26 @@ reaches_from g o s x r m i lm f li q = any_from (map_count g) (λ m. nat_eq (map
     (and_from (nat_eq (map_from g m) s) (reaches_by g o m x r) (eq-eqb (map_from g m) s f)
     (any_from (map_dim g m) (λ i. nat_eq (owner_of o (map_to g m) (target g m x i)) r) i li (eq-eqb (owner_of o (map_to g m) (target g m x i)) r q)))
 
-pub execute_halo : (g : MeshValue) (o : Owners) (s x r : ℕ) → (imports_execute g o s x r ≡ true) ↔ ((owner_of o s x ≢ r) × ((m : ℕ) × (i : ℕ) × (m < map_count g) × (map_from g m ≡ s) × (i < map_dim g m) × (owner_of o (map_to g m) (target g m x i) ≡ r)))
+pub execute_halo : (g : MeshValue) (o : Owners) (s x r : ℕ)
+    → (imports_execute g o s x r ≡ true) ↔
+    ((owner_of o s x ≢ r) × ((m : ℕ) × (i : ℕ) × (m < map_count g) × (map_from g m ≡ s) × (i < map_dim g m)
+    × (owner_of o (map_to g m) (target g m x i) ≡ r)))
 unfolding imports_execute owns
 execute_halo g o s x r = (
   λ t. (
       let p = and_parts (not (nat_eq (owner_of o s x) r)) (reaches g o s x r) t in
       (λ e. (let z : false ≡ true = sym (not-true (nat_eq (owner_of o s x) r) p.0) ∙ eq-eqb (owner_of o s x) r e in cc), reaches_witness g o s x r p.1)),
-  λ w. and_from (not (nat_eq (owner_of o s x) r)) (reaches g o s x r) (not_from_false (nat_eq (owner_of o s x) r) (ne_eqb (owner_of o s x) r w.0)) (reaches_from g o s x r w.1.0 w.1.1 w.1.2 w.1.3 w.1.4 w.1.5),
+  λ w. and_from (not (nat_eq (owner_of o s x) r)) (reaches g o s x r)
+      (not_from_false (nat_eq (owner_of o s x) r) (ne_eqb (owner_of o s x) r w.0))
+      (reaches_from g o s x r w.1.0 w.1.1 w.1.2 w.1.3 w.1.4 w.1.5),
 )
 
 executes_is : (g : MeshValue) (o : Owners) (s y r : ℕ) → executes g o s y r ≡ (owns o s y r || imports_execute g o s y r)
 unfolding executes
 executes_is g o s y r = refl
 
-pub target_copied : (g : MeshValue) (o : Owners) (m x i r : ℕ) → m < map_count g → x < set_size g (map_from g m) → executes g o (map_from g m) x r ≡ true → i < map_dim g m → has_copy g o (map_to g m) (target g m x i) r ≡ true
+pub target_copied : (g : MeshValue) (o : Owners) (m x i r : ℕ) → m < map_count g → x < set_size g (map_from g m)
+    → executes g o (map_from g m) x r ≡ true → i < map_dim g m → has_copy g o (map_to g m) (target g m x i) r ≡ true
 unfolding imports_nonexecute named_from
 target_copied g o m x i r lm lx t li =
     let s : ℕ = map_to g m in
@@ -52,14 +59,18 @@ target_copied g o m x i r lm lx t li =
     copied false true e n q t = refl
     copied false false e n q t = rw (q, t) refl
 
-pub core_targets : (g : MeshValue) (o : Owners) (s x m i : ℕ) → is_core g o s x ≡ true → m < map_count g → map_from g m ≡ s → i < map_dim g m → owner_of o (map_to g m) (target g m x i) ≡ owner_of o s x
+pub core_targets : (g : MeshValue) (o : Owners) (s x m i : ℕ) → is_core g o s x ≡ true → m < map_count g → map_from g m ≡ s
+    → i < map_dim g m → owner_of o (map_to g m) (target g m x i) ≡ owner_of o s x
 unfolding is_core
 core_targets g o s x m i t lm f li =
     let foreign : ℕ → Bool = λ m. nat_eq (map_from g m) s && any_below (map_dim g m) (λ i. not (nat_eq (owner_of o (map_to g m) (target g m x i)) (owner_of o s x))) in
     let a : ℕ = owner_of o (map_to g m) (target g m x i) in
     let b : ℕ = owner_of o s x in
     eqb-true a b (true_from_ne_false (nat_eq a b) (λ e.
-    let w : foreign m ≡ true = and_from (nat_eq (map_from g m) s) (any_below (map_dim g m) (λ i. not (nat_eq (owner_of o (map_to g m) (target g m x i)) (owner_of o s x)))) (eq-eqb (map_from g m) s f) (any_from (map_dim g m) (λ i. not (nat_eq (owner_of o (map_to g m) (target g m x i)) (owner_of o s x))) i li (not_from_false (nat_eq a b) e)) in
+    let w : foreign m ≡ true = and_from (nat_eq (map_from g m) s)
+        (any_below (map_dim g m) (λ i. not (nat_eq (owner_of o (map_to g m) (target g m x i)) (owner_of o s x))))
+        (eq-eqb (map_from g m) s f) (any_from (map_dim g m) (λ i. not (nat_eq (owner_of o (map_to g m) (target g m x i)) (owner_of o s x)))
+        i li (not_from_false (nat_eq a b) e)) in
     let z : false ≡ true = sym (not-true (any_below (map_count g) foreign) t) ∙ any_from (map_count g) foreign m lm w in
     cc))
 

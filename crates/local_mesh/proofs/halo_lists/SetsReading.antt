@@ -23,13 +23,16 @@ sets_push_left xs v s l =
 sets_push : (xs : List (Vec RankSet Global)) (v : Vec RankSet Global) (s : ℕ) → length xs ≡ s → sets_in (xs ++ v ∷ []) s ≡ v.items
 sets_push xs v s e = sym (sets_at (xs ++ v ∷ []) s v (omega (arith, length_push xs v))) ∙ ap (λ (z : Vec RankSet Global). z.items) (get_or_push xs v v s e)
 
-pub sets_more : (xs : List (Vec RankSet Global)) (v : Vec RankSet Global) (n : ℕ) (size : ℕ → ℕ) → length xs ≡ n → length v.items ≡ size n → ((s : ℕ) → s < n → length (sets_in xs s) ≡ size s) → (s : ℕ) → s < n + 1 → length (sets_in (xs ++ v ∷ []) s) ≡ size s
+pub sets_more : (xs : List (Vec RankSet Global)) (v : Vec RankSet Global) (n : ℕ) (size : ℕ → ℕ) → length xs ≡ n → length v.items ≡ size n
+    → ((s : ℕ) → s < n → length (sets_in xs s) ≡ size s) → (s : ℕ) → s < n + 1 → length (sets_in (xs ++ v ∷ []) s) ≡ size s
 sets_more xs v n size e q h s l = ⊎_elim
     (λ (t : s ≡ n). rw t (ap (length {A = RankSet}) (sets_push xs v n e) ∙ q))
     (λ (t : s ≡ n → ⊥). let ls : s < n = omega arith in ap (length {A = RankSet}) (sets_push_left xs v s (rw e ls)) ∙ h s ls)
     (cases_eq s n)
 
-pub sets_has_more : (xs : List (Vec RankSet Global)) (v : Vec RankSet Global) (n : ℕ) (size : ℕ → ℕ) (p : ℕ → ℕ → ℕ → Bool) → length xs ≡ n → ((x r : ℕ) → x < size n → has_at v.items x r ≡ p n x r) → ((s x r : ℕ) → s < n → x < size s → has_at (sets_in xs s) x r ≡ p s x r) → (s x r : ℕ) → s < n + 1 → x < size s → has_at (sets_in (xs ++ v ∷ []) s) x r ≡ p s x r
+pub sets_has_more : (xs : List (Vec RankSet Global)) (v : Vec RankSet Global) (n : ℕ) (size : ℕ → ℕ) (p : ℕ → ℕ → ℕ → Bool) → length xs ≡ n
+    → ((x r : ℕ) → x < size n → has_at v.items x r ≡ p n x r) → ((s x r : ℕ) → s < n → x < size s → has_at (sets_in xs s) x r ≡ p s x r)
+    → (s x r : ℕ) → s < n + 1 → x < size s → has_at (sets_in (xs ++ v ∷ []) s) x r ≡ p s x r
 sets_has_more xs v n size p e q h s x r l lx = ⊎_elim
     (λ (t : s ≡ n).
     let ln : x < size n = subst (λ z. x < size z) t lx in

@@ -17,7 +17,8 @@ or_and_more false true a e = refl
 or_and_more false false a e = refl
 
 -- a mark at target t: the union there, the rest as it was
-pub union_at : (now : List RankSet) (t : ℕ) (s ranks : RankSet) → t < length now → ((r : ℕ) → has s r ≡ (has_at now t r || has ranks r)) → (y r : ℕ) → has_at (set now t s) y r ≡ (has_at now y r || (has ranks r && nat_eq t y))
+pub union_at : (now : List RankSet) (t : ℕ) (s ranks : RankSet) → t < length now → ((r : ℕ) → has s r ≡ (has_at now t r || has ranks r))
+    → (y r : ℕ) → has_at (set now t s) y r ≡ (has_at now y r || (has ranks r && nat_eq t y))
 union_at now t s ranks l h y r = ⊎_elim
     (λ (q : y ≡ t).
     rw (q, eq-eqb t t refl, and-true (has ranks r)) (has_at_set_same now t s l r ∙ h r))
@@ -26,7 +27,10 @@ union_at now t s ranks l h y r = ⊎_elim
     rw (ne_eqb t y m, and-false (has ranks r), or-false (has_at now y r)) (has_at_set_other now t y s n r))
     (cases_eq y t)
 
-pub name_more : (b : Bool) (now : List RankSet) (t : ℕ) (s ranks : RankSet) (n : ℕ) (f : ℕ → ℕ) → t < length now → ((r : ℕ) → has s r ≡ (has_at now t r || has ranks r)) → t ≡ f n → (y r : ℕ) → has_at now y r ≡ (b || (has ranks r && any_below n (λ i. nat_eq (f i) y))) → has_at (set now t s) y r ≡ (b || (has ranks r && any_below (n + 1) (λ i. nat_eq (f i) y)))
+pub name_more : (b : Bool) (now : List RankSet) (t : ℕ) (s ranks : RankSet) (n : ℕ) (f : ℕ → ℕ) → t < length now
+    → ((r : ℕ) → has s r ≡ (has_at now t r || has ranks r)) → t ≡ f n → (y r : ℕ)
+    → has_at now y r ≡ (b || (has ranks r && any_below n (λ i. nat_eq (f i) y)))
+    → has_at (set now t s) y r ≡ (b || (has ranks r && any_below (n + 1) (λ i. nat_eq (f i) y)))
 name_more b now t s ranks n f l h q y r k =
     union_at now t s ranks l h y r
     ∙ (ap (λ z. z || (has ranks r && nat_eq t y)) k
@@ -52,7 +56,10 @@ pub own_step_no : (b old : Bool) (n : ℕ) (e p : ℕ → Bool) → old ≡ (b |
 own_step_no b old n e p h t = any_step b old old n (λ m. e m && p m) h (sym (or-false old) ∙ ap (λ z. old || (z && p n)) (sym t))
 
 -- one more set written, of sets that were there
-pub set_more : (now initial : List RankSet) (n : ℕ) (s : RankSet) (p : ℕ → ℕ → Bool) → n < length now → ((r : ℕ) → has s r ≡ (has_at now n r || p n r)) → ((x r : ℕ) → x < n → has_at now x r ≡ (has_at initial x r || p x r)) → ((x r : ℕ) → n ≤ x → has_at now x r ≡ has_at initial x r) → (x r : ℕ) → x < n + 1 → has_at (set now n s) x r ≡ (has_at initial x r || p x r)
+pub set_more : (now initial : List RankSet) (n : ℕ) (s : RankSet) (p : ℕ → ℕ → Bool) → n < length now
+    → ((r : ℕ) → has s r ≡ (has_at now n r || p n r)) → ((x r : ℕ) → x < n → has_at now x r ≡ (has_at initial x r || p x r))
+    → ((x r : ℕ) → n ≤ x → has_at now x r ≡ has_at initial x r) → (x r : ℕ) → x < n + 1
+    → has_at (set now n s) x r ≡ (has_at initial x r || p x r)
 set_more now initial n s p l h before behind x r lx = ⊎_elim
     (λ (q : x ≡ n). rw q (has_at_set_same now n s l r ∙ (h r ∙ ap (λ z. z || p n r) (behind n r (omega arith)))))
     (λ (m : x ≡ n → ⊥). has_at_set_other now n x s m r ∙ before x r (omega arith))
@@ -62,7 +69,8 @@ pub set_kept : (now initial : List RankSet) (n : ℕ) (s : RankSet) → ((x r : 
 set_kept now initial n s behind x r l = has_at_set_other now n x s (λ e. omega (arith, e, l)) r ∙ behind x r (omega arith)
 
 -- one more set pushed
-pub has_more : (xs : List RankSet) (s : RankSet) (n : ℕ) (p : ℕ → ℕ → Bool) → length xs ≡ n → ((x r : ℕ) → x < n → has_at xs x r ≡ p x r) → ((r : ℕ) → has s r ≡ p n r) → (x r : ℕ) → x < n + 1 → has_at (xs ++ s ∷ []) x r ≡ p x r
+pub has_more : (xs : List RankSet) (s : RankSet) (n : ℕ) (p : ℕ → ℕ → Bool) → length xs ≡ n → ((x r : ℕ) → x < n → has_at xs x r ≡ p x r)
+    → ((r : ℕ) → has s r ≡ p n r) → (x r : ℕ) → x < n + 1 → has_at (xs ++ s ∷ []) x r ≡ p x r
 has_more xs s n p e h k x r l = ⊎_elim
     (λ (q : x ≡ n). rw q (has_at_push xs s n e r ∙ k r))
     (λ (m : x ≡ n → ⊥). let lx : x < n = omega arith in has_at_push_left xs s x (rw e lx) r ∙ h x r lx)

@@ -17,7 +17,11 @@ empty_more xs v n e q h r l = ⊎_elim
     (cases_eq r n)
 
 -- one rank's list has the number, and the rank is taken from those left
-pub push_step : (lists initial : List (Vec ℕ Global)) (rank number : ℕ) (v : Vec ℕ Global) (ranks rest rest' : RankSet) → length lists ≤ 64 → rank < length lists → has rest rank ≡ true → has ranks rank ≡ true → v.items ≡ row lists rank ++ number ∷ [] → ((k : ℕ) → k < 64 → has rest' k ≡ (has rest k && not (nat_eq k rank))) → ((r : ℕ) → r < length lists → row lists r ≡ row initial r ++ cond (has ranks r && not (has rest r)) (number ∷ []) []) → (r : ℕ) → r < length lists → row (set lists rank v) r ≡ row initial r ++ cond (has ranks r && not (has rest' r)) (number ∷ []) []
+pub push_step : (lists initial : List (Vec ℕ Global)) (rank number : ℕ) (v : Vec ℕ Global) (ranks rest rest' : RankSet) → length lists ≤ 64
+    → rank < length lists → has rest rank ≡ true → has ranks rank ≡ true → v.items ≡ row lists rank ++ number ∷ []
+    → ((k : ℕ) → k < 64 → has rest' k ≡ (has rest k && not (nat_eq k rank)))
+    → ((r : ℕ) → r < length lists → row lists r ≡ row initial r ++ cond (has ranks r && not (has rest r)) (number ∷ []) []) → (r : ℕ)
+    → r < length lists → row (set lists rank v) r ≡ row initial r ++ cond (has ranks r && not (has rest' r)) (number ∷ []) []
 push_step lists initial rank number v ranks rest rest' few l t u e without inv r lr = ⊎_elim
     (λ (q : r ≡ rank).
     let gone : has rest' rank ≡ false = without rank (omega arith) ∙ (ap (λ z. has rest rank && not z) (eq-eqb rank rank refl) ∙ and-false (has rest rank)) in
@@ -30,5 +34,6 @@ push_step lists initial rank number v ranks rest rest' few l t u e without inv r
     (cases_eq r rank)
 
 -- what is left is of the set still
-pub rest_step : (ranks rest rest' : RankSet) (rank : ℕ) → ((k : ℕ) → k < 64 → has rest' k ≡ (has rest k && not (nat_eq k rank))) → ((r : ℕ) → r < 64 → has rest r ≡ true → has ranks r ≡ true) → (r : ℕ) → r < 64 → has rest' r ≡ true → has ranks r ≡ true
+pub rest_step : (ranks rest rest' : RankSet) (rank : ℕ) → ((k : ℕ) → k < 64 → has rest' k ≡ (has rest k && not (nat_eq k rank)))
+    → ((r : ℕ) → r < 64 → has rest r ≡ true → has ranks r ≡ true) → (r : ℕ) → r < 64 → has rest' r ≡ true → has ranks r ≡ true
 rest_step ranks rest rest' rank without h r l t = h r l (and_parts (has rest r) (not (nat_eq r rank)) (sym (without r l) ∙ t)).0

@@ -24,7 +24,8 @@ pub union_bit : (a b k : ℕ) → eqb (bit_at (bit_or a b) k) 1 ≡ (eqb (bit_at
 union_bit a b k = rw bit_at_or (max_one (bit_at a k) (bit_at b k) (bit_cases a k) (bit_cases b k))
 
 pub minus_bit : (a b k : ℕ) → b < 2 ^ 64 → k < 64 → eqb (bit_at (bit_and a (bit_not w64 b)) k) 1 ≡ (eqb (bit_at a k) 1 && not (eqb (bit_at b k) 1))
-minus_bit a b k l m = ap (λ (z : ℕ). eqb z 1) (bit_at_and a (bit_not w64 b) k ∙ ap (λ (z : ℕ). min (bit_at a k) z) (bit_at_not w64 b k l m)) ∙ min_one (bit_at a k) (bit_at b k) (bit_cases a k) (bit_cases b k)
+minus_bit a b k l m = ap (λ (z : ℕ). eqb z 1) (bit_at_and a (bit_not w64 b) k ∙ ap (λ (z : ℕ). min (bit_at a k) z) (bit_at_not w64 b k l m))
+    ∙ min_one (bit_at a k) (bit_at b k) (bit_cases a k) (bit_cases b k)
 
 pub with_bit : (a r k : ℕ) → r < 64 → eqb (bit_at (bit_or a (1 * 2 ^ r % 2 ^ 64)) k) 1 ≡ (eqb (bit_at a k) 1 || eqb k r)
 with_bit a r k l = ⊎_elim

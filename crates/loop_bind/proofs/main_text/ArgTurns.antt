@@ -11,6 +11,9 @@ use Rattle.loop_bind.specs.Arguments.{arg_found, args_found, with_earlier}
 use Rattle.bound_program.proofs.Public.{least_append}
 use Rattle.lemmas.proofs.Lists.{drop_here}
 
-pub args_go : (ps : List Pos) (es : List Named) (k : Declared) (set : Option ℕ) (b b' : List Earlier) (xs : List LoopArg) (i : ℕ) (x : LoopArg) (f f' : Option Found) → i < length xs → x ≡ get_or xs i x → f' ≡ least_from f (arg_found ps es k set b x) → b' ≡ with_earlier ps es k x b → least_from f' (args_found ps es k set b' (drop (i + 1) xs)) ≡ least_from f (args_found ps es k set b (drop i xs))
+pub args_go : (ps : List Pos) (es : List Named) (k : Declared) (set : Option ℕ) (b b' : List Earlier) (xs : List LoopArg) (i : ℕ)
+    (x : LoopArg) (f f' : Option Found) → i < length xs → x ≡ get_or xs i x → f' ≡ least_from f (arg_found ps es k set b x)
+    → b' ≡ with_earlier ps es k x b → least_from f' (args_found ps es k set b' (drop (i + 1) xs)) ≡ least_from f
+    (args_found ps es k set b (drop i xs))
 args_go ps es k set b b' xs i x f f' h g w e =
     rw (e, drop_here xs i x h g, w) (sym (least_append f (arg_found ps es k set b x) _))

@@ -37,13 +37,19 @@ unless_done f (Some g) x r h = cc
 module _ (places : List Pos) (consts : List ConstDecl) (entries : List Named) where
   module _ (a : Walked) (w : Spot) (t : ℕ) (l : TextLiteral) (es : List Expr) where
     -- `op_printf` is refused
-    pub line_stops : (e : BindRefusal) (x : ActValue) (b : Walked) → JudgesBy {X = Act} act_of (Err e) (unless_found (line_found places consts entries t l (length es) (conversions l.text)) x) → Judges {X = Unit {0}} (Err e) b (judged_call places consts entries a w (tree.Printf t l (map expr_of es)))
+    pub line_stops : (e : BindRefusal) (x : ActValue) (b : Walked)
+        → JudgesBy {X = Act} act_of (Err e) (unless_found (line_found places consts entries t l (length es) (conversions l.text)) x)
+        → Judges {X = Unit {0}} (Err e) b (judged_call places consts entries a w (tree.Printf t l (map expr_of es)))
     line_stops e x b (inl h) = inl h
     line_stops e x b (inr h) = inr (rw (length-map es expr_of) (unless_refused (first_of (line_found places consts entries t l (length es) (conversions l.text))) x _ e h))
 
     -- `op_printf` does this
-    pub line_done : (r : ActValue) → unless_found (line_found places consts entries t l (length es) (conversions l.text)) (Line l.text (map (resolved places a.declared.names) (map expr_of es))) ≡ Ok r → judged_call places consts entries a w (tree.Printf t l (map expr_of es)) ≡ Ok (does (Do r) a)
-    line_done r h = rw (length-map es expr_of) (unless_done (λ x. does (Do x) a) (first_of (line_found places consts entries t l (length es) (conversions l.text))) (Line l.text (map (resolved places a.declared.names) (map expr_of es))) r h)
+    pub line_done : (r : ActValue) → unless_found (line_found places consts entries t l (length es) (conversions l.text))
+        (Line l.text (map (resolved places a.declared.names) (map expr_of es))) ≡ Ok r
+        → judged_call places consts entries a w (tree.Printf t l (map expr_of es)) ≡ Ok (does (Do r) a)
+    line_done r h = rw (length-map es expr_of)
+        (unless_done (λ x. does (Do x) a) (first_of (line_found places consts entries t l (length es) (conversions l.text)))
+        (Line l.text (map (resolved places a.declared.names) (map expr_of es))) r h)
 
   -- ---- blocks
 
@@ -52,10 +58,14 @@ module _ (places : List Pos) (consts : List ConstDecl) (entries : List Named) wh
     same = ap (λ x. judged_hosts places consts entries x v hs) p ∙ ap (λ s. judged_hosts places consts entries (opened places consts entries a) s hs) q
 
     -- a block is refused where its statements are
-    pub block_stops : (e : BindRefusal) (x y : Walked) → Judges {X = Unit {0}} (Err e) x (judged_hosts places consts entries b v hs) → Judges {X = Unit {0}} (Err e) y (judged_host places consts entries a w (tree.HostBlock t hs))
+    pub block_stops : (e : BindRefusal) (x y : Walked) → Judges {X = Unit {0}} (Err e) x (judged_hosts places consts entries b v hs)
+        → Judges {X = Unit {0}} (Err e) y (judged_host places consts entries a w (tree.HostBlock t hs))
     block_stops e x y (inl h) = inl h
     block_stops e x y (inr h) = inr (ap (λ r. r >>= λ d. Ok (ended places consts entries a (Block d.steps) d)) (sym same ∙ h))
 
     -- a block behind its statements d, with these names and steps
-    pub block_done : (d : Walked) (names : Scope) (steps : Steps) → judged_hosts places consts entries b v hs ≡ Ok d → closed a.declared.names d.declared.names ≡ names → followed a.steps (one_step (Block d.steps)) ≡ steps → judged_host places consts entries a w (tree.HostBlock t hs) ≡ Ok (record { declared = record d.declared { names = names }; steps = steps })
+    pub block_done : (d : Walked) (names : Scope) (steps : Steps) → judged_hosts places consts entries b v hs ≡ Ok d
+        → closed a.declared.names d.declared.names ≡ names → followed a.steps (one_step (Block d.steps)) ≡ steps
+        → judged_host places consts entries a w (tree.HostBlock t hs) ≡ Ok
+        (record { declared = record d.declared { names = names }; steps = steps })
     block_done d names steps h n k = ap (λ r. r >>= λ d. Ok (ended places consts entries a (Block d.steps) d)) (sym same ∙ h) ∙ rw (n, k) refl

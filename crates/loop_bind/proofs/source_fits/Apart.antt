@@ -32,7 +32,8 @@ new_before : (x : List ℕ) (d : Decl) (names : Names) (y : List ℕ) → decl_i
 new_before x d [] y e = (refl, λ q. none_of d (sym (ap (λ b. if b then Some d else None) ((bytes_eq-Decides y x).1 (sym q))) ∙ e))
 new_before x d (n ∷ names) y e = pick (λ h. new_before x d names y h) (bytes_eq y n.0) e
   where
-    pick : (decl_in (names ++ (x, d) ∷ []) y ≡ None → (decl_in names y ≡ None) × (x ≢ y)) → (b : Bool) → (if b then Some n.1 else decl_in (names ++ (x, d) ∷ []) y) ≡ None → ((if b then Some n.1 else decl_in names y) ≡ None) × (x ≢ y)
+    pick : (decl_in (names ++ (x, d) ∷ []) y ≡ None → (decl_in names y ≡ None) × (x ≢ y)) → (b : Bool)
+        → (if b then Some n.1 else decl_in (names ++ (x, d) ∷ []) y) ≡ None → ((if b then Some n.1 else decl_in names y) ≡ None) × (x ≢ y)
     pick rest true e = none_of n.1 e
     pick rest false e = rest e
 
@@ -67,7 +68,8 @@ name_same c (tree.Init x e) = refl
 name_same c (tree.Array x n) = refl
 
 module _ (named : List (List ℕ)) where
-  declrs_apart : (c : Bool) (file : Names) (ds : List DeclrTree) (gs : List FileVariable) → variables_breaches named c file ds ≡ [] → Apart (after_variables named c file ds) gs → Apart file (declrs_variables c ds ++ gs)
+  declrs_apart : (c : Bool) (file : Names) (ds : List DeclrTree) (gs : List FileVariable) → variables_breaches named c file ds ≡ []
+      → Apart (after_variables named c file ds) gs → Apart file (declrs_variables c ds ++ gs)
   declrs_apart c file [] gs e h = h
   declrs_apart c file (d ∷ ds) gs e h =
       let x = (declr_name d).name in
@@ -84,12 +86,15 @@ module _ (named : List (List ℕ)) where
 
   tops_apart : (file : Names) (ts : List TopTree) → tops_breaches named file ts ≡ [] → Apart file (file_variables ts)
   tops_apart file [] e = record { new = All-nil (IsNew file); apart = tt }
-  tops_apart file (t ∷ ts) e = one t (right_nil (top_breaches named file t) (tops_breaches named (after_top named file t) ts) e) (left_nil (top_breaches named file t) (tops_breaches named (after_top named file t) ts) e) (tops_apart (after_top named file t) ts (right_nil (top_breaches named file t) (tops_breaches named (after_top named file t) ts) e))
+  tops_apart file (t ∷ ts) e = one t (right_nil (top_breaches named file t) (tops_breaches named (after_top named file t) ts) e)
+      (left_nil (top_breaches named file t) (tops_breaches named (after_top named file t) ts) e)
+      (tops_apart (after_top named file t) ts (right_nil (top_breaches named file t) (tops_breaches named (after_top named file t) ts) e))
     where
       other : (x : List ℕ) (d : Decl) (at : ℕ) → breach_if (is_some (decl_in file x)) rule.DuplicateName at ≡ [] → Apart (declared x d file) (file_variables ts) → Apart file (file_variables ts)
       other x d at e h = record { new = (fresh x d file (file_variables ts) (is_new (decl_in file x) at e) h.new).before; apart = h.apart }
 
-      one : (t : TopTree) → tops_breaches named (after_top named file t) ts ≡ [] → top_breaches named file t ≡ [] → Apart (after_top named file t) (file_variables ts) → Apart file (top_variables t ++ file_variables ts)
+      one : (t : TopTree) → tops_breaches named (after_top named file t) ts ≡ [] → top_breaches named file t ≡ []
+          → Apart (after_top named file t) (file_variables ts) → Apart file (top_variables t ++ file_variables ts)
       one (tree.Extern x) r e h = other x.name (other_decl sort.Extern x.at) x.at e h
       one (tree.ExternArray x) r e h = other x.name (other_decl sort.ExternArray x.at) x.at e h
       one (tree.FileDeclaration v) r e h = declrs_apart v.is_const file v.declrs (file_variables ts) e h

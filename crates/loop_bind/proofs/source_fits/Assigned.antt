@@ -134,7 +134,8 @@ mutual
 module _ (named : List (List ℕ)) where
   like_variable : (file : Names) (k : Known) (c : Bool) (d : DeclrTree) → Like file k → Like (with_variable named c file d) (known.after_declr k c d)
   like_variable file k c (tree.Plain x) h = like_more file k x.name (variable_decl named c (constant_cells file) (tree.Plain x)) true tt h
-  like_variable file k c (tree.Init x e) h = like_more file k x.name (variable_decl named c (constant_cells file) (tree.Init x e)) (not c) (kind_not c (variable_decl named c (constant_cells file) (tree.Init x e)) refl) h
+  like_variable file k c (tree.Init x e) h = like_more file k x.name (variable_decl named c (constant_cells file) (tree.Init x e)) (not c)
+      (kind_not c (variable_decl named c (constant_cells file) (tree.Init x e)) refl) h
   like_variable file k c (tree.Array x n) h = like_more file k x.name (variable_decl named c (constant_cells file) (tree.Array x n)) true tt h
 
   like_variables : (file : Names) (k : Known) (c : Bool) (ds : List DeclrTree) → Like file k → Like (after_variables named c file ds) (known.after_declrs k c ds)
@@ -186,12 +187,15 @@ target_could fixed indexed t None None None None h i e = absurd (subst IsNil (sy
 -- ---- statements
 
 module _ (file : Names) (f : Known) (same : Like file f) where
-  place_assigns : (own : Names) (k : Known) (fixed : Bool) (p : PlaceTree) → Like own k → place_breaches false (scope file own) fixed p ≡ [] → CanBeAssigned (found k (place_name p)) (found f (place_name p))
-  place_assigns own k fixed (tree.Scalar x) h e = target_could fixed false x.at (found k x.name) (found f x.name) (decl_in own x.name) (decl_in file x.name) (like_found x.name own k h) (like_found x.name file f same) e
+  place_assigns : (own : Names) (k : Known) (fixed : Bool) (p : PlaceTree) → Like own k → place_breaches false (scope file own) fixed p ≡ []
+      → CanBeAssigned (found k (place_name p)) (found f (place_name p))
+  place_assigns own k fixed (tree.Scalar x) h e = target_could fixed false x.at (found k x.name) (found f x.name) (decl_in own x.name)
+      (decl_in file x.name) (like_found x.name own k h) (like_found x.name file f same) e
   place_assigns own k fixed (tree.Element x i) h e =
       target_could fixed true x.at (found k x.name) (found f x.name) (decl_in own x.name) (decl_in file x.name) (like_found x.name own k h) (like_found x.name file f same)
       (left_nil (use_breaches (writing false fixed true) x.at (means (scope file own) x.name)) (expr_breaches false (scope file own) i) e)
-  place_assigns own k fixed (tree.Target at x) h e = target_could fixed true x.at (found k x.name) (found f x.name) (decl_in own x.name) (decl_in file x.name) (like_found x.name own k h) (like_found x.name file f same) e
+  place_assigns own k fixed (tree.Target at x) h e = target_could fixed true x.at (found k x.name) (found f x.name) (decl_in own x.name)
+      (decl_in file x.name) (like_found x.name own k h) (like_found x.name file f same) e
 
   mutual
     host_assigns : (own : Names) (k : Known) (fixed : List ℕ) (x : HostTree) → Like own k → host_breaches file own fixed x ≡ [] → Assigns f k x

@@ -19,7 +19,8 @@ left_found : (cs ds : List ConstDecl) (x : List ℕ) (n : ℕ) → first_cell cs
 left_found [] ds x n h = cc
 left_found (c ∷ cs) ds x n h = by (bytes_eq c.name x) (λ e. left_found cs ds x n e) h
   where
-    by : (b : Bool) → (first_cell cs x ≡ Some n → first_cell (cs ++ ds) x ≡ Some n) → (if b then Some c.from else first_cell cs x) ≡ Some n → (if b then Some c.from else first_cell (cs ++ ds) x) ≡ Some n
+    by : (b : Bool) → (first_cell cs x ≡ Some n → first_cell (cs ++ ds) x ≡ Some n) → (if b then Some c.from else first_cell cs x) ≡ Some n
+        → (if b then Some c.from else first_cell (cs ++ ds) x) ≡ Some n
     by true rest h = h
     by false rest h = rest h
 
@@ -27,7 +28,9 @@ right_found : (cs ds : List ConstDecl) (x : List ℕ) → first_cell cs x ≡ No
 right_found [] ds x h = refl
 right_found (c ∷ cs) ds x h = by (bytes_eq c.name x) (λ e. right_found cs ds x e) h
   where
-    by : (b : Bool) → (first_cell cs x ≡ None → first_cell (cs ++ ds) x ≡ first_cell ds x) → ◌≡◌ {A = Option ℕ} (if b then Some c.from else first_cell cs x) None → (if b then Some c.from else first_cell (cs ++ ds) x) ≡ first_cell ds x
+    by : (b : Bool) → (first_cell cs x ≡ None → first_cell (cs ++ ds) x ≡ first_cell ds x)
+        → ◌≡◌ {A = Option ℕ} (if b then Some c.from else first_cell cs x) None
+        → (if b then Some c.from else first_cell (cs ++ ds) x) ≡ first_cell ds x
     by true rest h = cc
     by false rest h = rest h
 
@@ -44,11 +47,13 @@ no_constant : (names : Names) (x : List ℕ) → decl_in names x ≡ None → fi
 no_constant [] x h = refl
 no_constant (n ∷ names) x h = by (bytes_eq x n.0) refl (λ e. no_constant names x e) h
   where
-    behind : (b : Bool) → bytes_eq n.0 x ≡ false → first_cell (constants names) x ≡ None → first_cell ((if b then (record { name = n.0; from = n.1.from; count = n.1.count } ∷ []) else []) ++ constants names) x ≡ None
+    behind : (b : Bool) → bytes_eq n.0 x ≡ false → first_cell (constants names) x ≡ None
+        → first_cell ((if b then (record { name = n.0; from = n.1.from; count = n.1.count } ∷ []) else []) ++ constants names) x ≡ None
     behind true q r = ap (λ b. if b then Some n.1.from else first_cell (constants names) x) q ∙ r
     behind false q r = r
 
-    by : (b : Bool) → bytes_eq x n.0 ≡ b → (decl_in names x ≡ None → first_cell (constants names) x ≡ None) → ◌≡◌ {A = Option Decl} (if b then Some n.1 else decl_in names x) None → first_cell (constants (n ∷ names)) x ≡ None
+    by : (b : Bool) → bytes_eq x n.0 ≡ b → (decl_in names x ≡ None → first_cell (constants names) x ≡ None)
+        → ◌≡◌ {A = Option Decl} (if b then Some n.1 else decl_in names x) None → first_cell (constants (n ∷ names)) x ≡ None
     by true q rest e = cc
     by false q rest e = behind n.1.is_constant (turned x n.0 q) (rest e)
 

@@ -51,7 +51,8 @@ element_as at s c false k from count form i q h = h
 element_fits : (d : Decl) (form : ElementForm) (i : RExprTree) (q : Pos) → ExprFits i → ExprFits (element d form i q)
 element_fits d form i q h = element_as d.at d.sort d.is_const d.of_file d.is_constant d.from d.count form i q h
 
-set_as : (at : ℕ) (s : Sort) (c f k : Bool) (from count : ℕ) (form : ElementForm) (i : RExprTree) (q : Pos) (op : AssignOp) (op_at : Pos) (v : RExprTree) → ExprFits i → ExprFits v → StmtFits (set_element (mk at s c f k from count) form i q op op_at v)
+set_as : (at : ℕ) (s : Sort) (c f k : Bool) (from count : ℕ) (form : ElementForm) (i : RExprTree) (q : Pos) (op : AssignOp) (op_at : Pos)
+    (v : RExprTree) → ExprFits i → ExprFits v → StmtFits (set_element (mk at s c f k from count) form i q op op_at v)
 set_as at sort.Param c f k from count form i q op op_at v h w = (h, w)
 set_as at s c f k from count form i q op op_at v h w = (h, w)
 
@@ -114,7 +115,9 @@ module _ (places : List Pos) (file : Names) where
         let last = word_at k word.Else ∷ stmt (suc k) y in
         let rest = stmt (suc k) x ++ last in
         let m = back (condition k at c) rest h in
-        (value_fits places (scope file own) c (condition_read k at c (front (condition k at c) rest h)), stmt_fits (suc k) own next x (front (stmt (suc k) x) last m), stmt_fits (suc k) own (behind next (cells x)) y (back (stmt (suc k) x) last m).1)
+        (value_fits places (scope file own) c (condition_read k at c (front (condition k at c) rest h)),
+            stmt_fits (suc k) own next x (front (stmt (suc k) x) last m),
+            stmt_fits (suc k) own (behind next (cells x)) y (back (stmt (suc k) x) last m).1)
     stmt_fits k own next (tree.For g x) h =
         (below g.to.value h.1.1.1.1.1.1.1.1.1.0, stmt_fits (suc k) (with_counter own next g) (behind next 1) x (back (print.counter k g) (stmt (suc k) x) h))
 
@@ -139,7 +142,8 @@ module _ (named : List (List ℕ)) (places : List Pos) where
   kernels_fit file [] h = tt
   kernels_fit file (t ∷ ts) h = by t (front (top t) (tops ts) h) (kernels_fit (after_top named file t) ts (back (top t) (tops ts) h))
     where
-      by : (t : TopTree) → MarksFit (top t) → KernelsFit (kernels named places (after_top named file t) ts) → KernelsFit (kernels_of named places file t ++ kernels named places (after_top named file t) ts)
+      by : (t : TopTree) → MarksFit (top t) → KernelsFit (kernels named places (after_top named file t) ts)
+          → KernelsFit (kernels_of named places file t ++ kernels named places (after_top named file t) ts)
       by (tree.Extern x) h rest = rest
       by (tree.ExternArray x) h rest = rest
       by (tree.FileDeclaration v) h rest = rest

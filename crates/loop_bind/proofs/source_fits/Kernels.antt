@@ -73,7 +73,9 @@ module _ (there : (from count : ℕ) → Type 0) where
         let b = none_of_both (top_breaches named file t) (tops_breaches named (after_top named file t) ts) e in
         by t b.0 (before_tops (Ready there) named (after_top named file t) ts h) (kernels_use (after_top named file t) ts h b.1)
       where
-        by : (t : TopTree) → top_breaches named file t ≡ [] → AllAre (Ready there) (after_top named file t) → KernelsUse (kernels named places (after_top named file t) ts) → KernelsUse (kernels_of named places file t ++ kernels named places (after_top named file t) ts)
+        by : (t : TopTree) → top_breaches named file t ≡ [] → AllAre (Ready there) (after_top named file t)
+            → KernelsUse (kernels named places (after_top named file t) ts)
+            → KernelsUse (kernels_of named places file t ++ kernels named places (after_top named file t) ts)
         by (tree.Extern x) h r rest = rest
         by (tree.ExternArray x) h r rest = rest
         by (tree.FileDeclaration v) h r rest = rest
@@ -140,7 +142,8 @@ all_ready : (cs : List ConstDecl) (names : Names) → AllAre (IsOfOne cs) names 
 all_ready cs [] h e = tt
 all_ready cs (n ∷ names) h e = (ready_as cs n.1.sort n.1.of_file n.1.is_constant n.1.from n.1.count h.0 e.0, all_ready cs names h.1 e.1)
 
-pub constants_used : (p : ProgramTree) (ks : List RKernel) → breaches p ≡ [] → map rkernel_of ks ≡ kernels (named_in p) p.places [] p.tops → All (λ (k : RKernel). UsesConstants (AreOfOne (constants (file_of p))) k.body.statement) ks
+pub constants_used : (p : ProgramTree) (ks : List RKernel) → breaches p ≡ [] → map rkernel_of ks ≡ kernels (named_in p) p.places [] p.tops
+    → All (λ (k : RKernel). UsesConstants (AreOfOne (constants (file_of p))) k.body.statement) ks
 constants_used p ks e q =
     let cs = constants (file_of p) in
     let b = none_of_both (tops_breaches (named_in p) [] p.tops) (hosts_breaches (file_of p) [] [] p.main.body) e in

@@ -24,7 +24,8 @@ are_more named [] gs [] b h k = k
 are_more named [] gs (c ∷ a) b h k = absurd h
 are_more named (f ∷ fs) gs a b h k = by (λ ds i. are_more named fs gs ds b i k) (is_constant named f) a h
   where
-    by : ((ds : List ConstDecl) → AreConstants named fs ds → AreConstants named (fs ++ gs) (ds ++ b)) → (q : Bool) (a : List ConstDecl) → Begins q f a (AreConstants named fs) → Begins q f (a ++ b) (AreConstants named (fs ++ gs))
+    by : ((ds : List ConstDecl) → AreConstants named fs ds → AreConstants named (fs ++ gs) (ds ++ b)) → (q : Bool) (a : List ConstDecl)
+        → Begins q f a (AreConstants named fs) → Begins q f (a ++ b) (AreConstants named (fs ++ gs))
     by rest false a h = rest a h
     by rest true [] h = absurd h
     by rest true (c ∷ a) h = (h.0, h.1, rest a h.2)
@@ -82,7 +83,8 @@ module _ (named : List (List ℕ)) where
   is_new : (x : List ℕ) (d : Decl) (file : Names) (t : ℕ) → repeated (record { name = x; at = t }) file ≡ [] → declared x d file ≡ file ++ (x, d) ∷ []
   is_new x d file t h = ap (λ b. if b then file else (file ++ (x, d) ∷ [])) (none_if (is_some (decl_in file x)) rule.DuplicateName t h)
 
-  variable_adds : (c : Bool) (file : Names) (d : DeclrTree) → IsDeclr c d → declr_breaches (scope file []) d ≡ [] → repeated (declr_name d) file ≡ [] → Adds named file (with_variable named c file d) (declr_variable c d ∷ [])
+  variable_adds : (c : Bool) (file : Names) (d : DeclrTree) → IsDeclr c d → declr_breaches (scope file []) d ≡ []
+      → repeated (declr_name d) file ≡ [] → Adds named file (with_variable named c file d) (declr_variable c d ∷ [])
   variable_adds c file d g s r =
       let v = variable_decl named c (constant_cells file) d in
       record {

@@ -62,7 +62,8 @@ module _ (there : (from count : ℕ) → Type 0) where
   abbrev pub Ready : Decl → Type 0
   Ready d = ReadyAs d.sort d.of_file d.is_constant d.from d.count
 
-  read_single : (at : ℕ) (s : Sort) (k0 f k : Bool) (from count : ℕ) → ReadyAs s f k from count → Allowed (reading true false) (mk at s k0 f k from count) → ExprUses (single (mk at s k0 f k from count))
+  read_single : (at : ℕ) (s : Sort) (k0 f k : Bool) (from count : ℕ) → ReadyAs s f k from count
+      → Allowed (reading true false) (mk at s k0 f k from count) → ExprUses (single (mk at s k0 f k from count))
   read_single at sort.Extern k0 true k from count h a = let e = a.reach in cc
   read_single at sort.ExternArray k0 true k from count h a = let e = a.value in cc
   read_single at sort.Kernel k0 true k from count h a = let e = a.value in cc
@@ -76,7 +77,9 @@ module _ (there : (from count : ℕ) → Type 0) where
   read_single at sort.Counter k0 true k from count h a = absurd h
   read_single at s k0 false k from count h a = tt
 
-  read_element : (at : ℕ) (s : Sort) (k0 f k : Bool) (from count : ℕ) (form : ElementForm) (i : RExprTree) (q : Pos) → ReadyAs s f k from count → ExprUses i → Allowed (reading true true) (mk at s k0 f k from count) → ExprUses (element (mk at s k0 f k from count) form i q)
+  read_element : (at : ℕ) (s : Sort) (k0 f k : Bool) (from count : ℕ) (form : ElementForm) (i : RExprTree) (q : Pos)
+      → ReadyAs s f k from count → ExprUses i → Allowed (reading true true) (mk at s k0 f k from count)
+      → ExprUses (element (mk at s k0 f k from count) form i q)
   read_element at sort.Extern k0 f k from count form i q h hi a = let e = a.index in cc
   read_element at sort.ExternArray k0 f k from count form i q h hi a = let e = a.value in cc
   read_element at sort.Kernel k0 f k from count form i q h hi a = let e = a.value in cc
@@ -94,11 +97,13 @@ module _ (there : (from count : ℕ) → Type 0) where
   single_uses None t h e = cc
   single_uses (Some d) t h e = read_single d.at d.sort d.is_const d.of_file d.is_constant d.from d.count h (allowed (reading true false) t d e)
 
-  element_uses : (m : Option Decl) (t : ℕ) (form : ElementForm) (i : RExprTree) (q : Pos) → IfSome m Ready → ExprUses i → use_breaches (reading true true) t m ≡ [] → ExprUses (element (decl_or m) form i q)
+  element_uses : (m : Option Decl) (t : ℕ) (form : ElementForm) (i : RExprTree) (q : Pos) → IfSome m Ready → ExprUses i
+      → use_breaches (reading true true) t m ≡ [] → ExprUses (element (decl_or m) form i q)
   element_uses None t form i q h hi e = cc
   element_uses (Some d) t form i q h hi e = read_element d.at d.sort d.is_const d.of_file d.is_constant d.from d.count form i q h hi (allowed (reading true true) t d e)
 
-  set_as : (at : ℕ) (s : Sort) (k0 f k : Bool) (from count : ℕ) (form : ElementForm) (i : RExprTree) (q : Pos) (op : AssignOp) (op_at : Pos) (v : RExprTree) → ExprUses i → ExprUses v → StmtUses (set_element (mk at s k0 f k from count) form i q op op_at v)
+  set_as : (at : ℕ) (s : Sort) (k0 f k : Bool) (from count : ℕ) (form : ElementForm) (i : RExprTree) (q : Pos) (op : AssignOp) (op_at : Pos)
+      (v : RExprTree) → ExprUses i → ExprUses v → StmtUses (set_element (mk at s k0 f k from count) form i q op op_at v)
   set_as at sort.Param k0 f k from count form i q op op_at v hi hv = (hi, hv)
   set_as at s k0 f k from count form i q op op_at v hi hv = (hi, hv)
 

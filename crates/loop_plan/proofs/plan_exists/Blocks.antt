@@ -100,7 +100,8 @@ module _ (ranks : ℕ) (some : 0 < ranks) where
           few_ranks = subst (λ z. z ≤ 64) (sym (ranks_at ranks (set_count g) lists)) few;
           sets = sets_at ranks (set_count g) lists mesh.few_sets;
           lengths = λ s l. ap length (owners_at ranks (set_count g) lists mesh.few_sets s l) ∙ length_block (set_size g s);
-          below = λ s x l lx. subst (λ z. z < blocks.ranks) (sym (owner_is s x l lx)) (subst (λ z. block_of (set_size g s) x < z) (sym (ranks_at ranks (set_count g) lists)) (block_below (set_size g s) x lx));
+          below = λ s x l lx. subst (λ z. z < blocks.ranks) (sym (owner_is s x l lx))
+              (subst (λ z. block_of (set_size g s) x < z) (sym (ranks_at ranks (set_count g) lists)) (block_below (set_size g s) x lx));
         };
         block = λ s x l lx. subst (λ z. InBlock (set_size g s) ranks z x) (sym (owner_is s x l lx)) (in_block (set_size g s) x lx);
         only = λ s x i l lx h. only_block (set_size g s) x i lx h ∙ sym (owner_is s x l lx);

@@ -19,7 +19,8 @@ found_at y (x ∷ xs) k l e = ⊎_elim
     rw (ne_eqb x y h) (let s = w.0 in omega arith, w.1))
     (cases_eq x y)
   where
-    later : ((k : ℕ) → k < length xs → get_or xs k 0 ≡ y → (found y xs < length xs) × (get_or xs (found y xs) 0 ≡ y)) → (k : ℕ) → k < length (x ∷ xs) → get_or (x ∷ xs) k 0 ≡ y → (x ≡ y → ⊥) → (found y xs < length xs) × (get_or xs (found y xs) 0 ≡ y)
+    later : ((k : ℕ) → k < length xs → get_or xs k 0 ≡ y → (found y xs < length xs) × (get_or xs (found y xs) 0 ≡ y)) → (k : ℕ)
+        → k < length (x ∷ xs) → get_or (x ∷ xs) k 0 ≡ y → (x ≡ y → ⊥) → (found y xs < length xs) × (get_or xs (found y xs) 0 ≡ y)
     later rest zero l e h = absurd (h e)
     later rest (suc k) l e h = rest k (omega arith) e
 

@@ -43,7 +43,8 @@ module _ (b : BoundValue) (meshes : List RankMesh) (size : ℕ) where
     few_places s r l lr = by_class (scatters (site_at b s).args)
       where
         few : executed_in (sets_of meshes r) (site_at b s).set < 2 ^ 32
-        few = executed_few b.mesh o p meshes d.are_perms d.are_meshes r (site_at b s).set (let e = d.are_meshes.count in omega arith) (set_fits b meshes fits s l) (sizes_fit b.mesh fits.mesh (site_at b s).set)
+        few = executed_few b.mesh o p meshes d.are_perms d.are_meshes r (site_at b s).set (let e = d.are_meshes.count in omega arith)
+            (set_fits b meshes fits s l) (sizes_fit b.mesh fits.mesh (site_at b s).set)
 
         by_class : (t : Bool) → cond t (executed_in (sets_of meshes r) (site_at b s).set) (own_in (sets_of meshes r) (site_at b s).set) < 2 ^ 32
         by_class true = few

@@ -75,7 +75,8 @@ module _ (ranks : ℕ) (some : 0 < ranks) where
         below = λ x l. subst (λ z. z < ranks) (sym (table_at (set_size g s) by_name x 0 l)) (named_below x l);
       }
 
-    next_by_blocks : (s : ℕ) → any_below (set_count g) (can_follow_targets g known) ≡ false → any_below (set_count g) (can_follow_names g known) ≡ false → IsFirst (set_count g) (λ t. not (known t)) s → Next
+    next_by_blocks : (s : ℕ) → any_below (set_count g) (can_follow_targets g known) ≡ false
+        → any_below (set_count g) (can_follow_names g known) ≡ false → IsFirst (set_count g) (λ t. not (known t)) s → Next
     next_by_blocks s none none_names fs = record {
       set = s;
       list = block_list ranks some (set_size g s);
@@ -96,20 +97,30 @@ module _ (ranks : ℕ) (some : 0 < ranks) where
     pub some_next : (any_below (set_count g) (λ t. not (known t)) ≡ false) ⊎ Next
     some_next = by_targets (first (can_follow_targets g known) (set_count g))
       where
-        by_blocks : any_below (set_count g) (can_follow_targets g known) ≡ false → any_below (set_count g) (can_follow_names g known) ≡ false → (any_below (set_count g) (λ t. not (known t)) ≡ false) ⊎ ((k : ℕ) × IsFirst (set_count g) (λ t. not (known t)) k) → (any_below (set_count g) (λ t. not (known t)) ≡ false) ⊎ Next
+        by_blocks : any_below (set_count g) (can_follow_targets g known) ≡ false
+            → any_below (set_count g) (can_follow_names g known) ≡ false → (any_below (set_count g) (λ t. not (known t)) ≡ false)
+            ⊎ ((k : ℕ) × IsFirst (set_count g) (λ t. not (known t)) k) → (any_below (set_count g) (λ t. not (known t)) ≡ false) ⊎ Next
         by_blocks none none_names (inl all) = inl all
         by_blocks none none_names (inr k) = inr (next_by_blocks k.0 none none_names k.1)
 
-        by_names : any_below (set_count g) (can_follow_targets g known) ≡ false → (any_below (set_count g) (can_follow_names g known) ≡ false) ⊎ ((k : ℕ) × IsFirst (set_count g) (can_follow_names g known) k) → (any_below (set_count g) (λ t. not (known t)) ≡ false) ⊎ Next
+        by_names : any_below (set_count g) (can_follow_targets g known) ≡ false
+            → (any_below (set_count g) (can_follow_names g known) ≡ false) ⊎ ((k : ℕ) × IsFirst (set_count g) (can_follow_names g known) k)
+            → (any_below (set_count g) (λ t. not (known t)) ≡ false) ⊎ Next
         by_names none (inl none_names) = by_blocks none none_names (first (λ t. not (known t)) (set_count g))
         by_names none (inr k) = ⊎_elim
-            (λ (h : any_below (map_count g) (leads_from_known g known k.0) ≡ false). clash (any_below (map_count g) (leads_from_known g known k.0)) (and_parts (not (known k.0)) (any_below (map_count g) (leads_from_known g known k.0)) k.1.passes).1 h)
+            (λ (h : any_below (map_count g) (leads_from_known g known k.0) ≡ false). clash
+                (any_below (map_count g) (leads_from_known g known k.0))
+                (and_parts (not (known k.0)) (any_below (map_count g) (leads_from_known g known k.0)) k.1.passes).1 h)
             (λ (m : (j : ℕ) × IsFirst (map_count g) (leads_from_known g known k.0) j). inr (next_by_names m.0 k.0 none k.1 m.1))
             (first (leads_from_known g known k.0) (map_count g))
 
-        by_targets : (any_below (set_count g) (can_follow_targets g known) ≡ false) ⊎ ((k : ℕ) × IsFirst (set_count g) (can_follow_targets g known) k) → (any_below (set_count g) (λ t. not (known t)) ≡ false) ⊎ Next
+        by_targets : (any_below (set_count g) (can_follow_targets g known) ≡ false)
+            ⊎ ((k : ℕ) × IsFirst (set_count g) (can_follow_targets g known) k) → (any_below (set_count g) (λ t. not (known t)) ≡ false)
+            ⊎ Next
         by_targets (inl none) = by_names none (first (can_follow_names g known) (set_count g))
         by_targets (inr k) = ⊎_elim
-            (λ (h : any_below (map_count g) (leads_to_known g known k.0) ≡ false). clash (any_below (map_count g) (leads_to_known g known k.0)) (and_parts (not (known k.0)) (any_below (map_count g) (leads_to_known g known k.0)) k.1.passes).1 h)
+            (λ (h : any_below (map_count g) (leads_to_known g known k.0) ≡ false). clash
+                (any_below (map_count g) (leads_to_known g known k.0))
+                (and_parts (not (known k.0)) (any_below (map_count g) (leads_to_known g known k.0)) k.1.passes).1 h)
             (λ (m : (j : ℕ) × IsFirst (map_count g) (leads_to_known g known k.0) j). inr (next_by_targets m.0 k.0 k.1 m.1))
             (first (leads_to_known g known k.0) (map_count g))

@@ -192,7 +192,8 @@ module _ (g : MeshValue) (m : ℕ) where
 
 -- ---- the outcome
 
-pub some_numbers : ((g : MeshValue) → IsMesh g → (m : ℕ) → m < map_count g → IsMapAt g m) → (g : MeshValue) (name : Option (List ℕ)) → IsMesh g → (r : Result Perms NumbersRefusal) × NumbersAre g name r
+pub some_numbers : ((g : MeshValue) → IsMesh g → (m : ℕ) → m < map_count g → IsMapAt g m) → (g : MeshValue) (name : Option (List ℕ))
+    → IsMesh g → (r : Result Perms NumbersRefusal) × NumbersAre g name r
 some_numbers maps g None mesh = let p = some_identity g mesh in (Ok p.0, p.1)
 some_numbers maps g (Some name) mesh = by_name (some_named (map_name g) name (map_count g))
   where

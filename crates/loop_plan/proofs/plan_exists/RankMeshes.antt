@@ -60,7 +60,9 @@ module _ (g : MeshValue) (o : Owners) (p : Perms) (r : ℕ) where
 
       few_held : (s : ℕ) → s < set_count g → length (originals_in sets s) ≤ set_size g s
       unfolding sets
-      few_held s l = rw (originals_at sets s (local_set g o p r s) (rw sets_count l) ∙ ap (λ z. z.original) (table_at (set_count g) (local_set g o p r) s (local_set g o p r s) l) ∙ originals_are g o p r s) (few_originals g o p r sizes perms s l)
+      few_held s l = rw (originals_at sets s (local_set g o p r s) (rw sets_count l)
+          ∙ ap (λ z. z.original) (table_at (set_count g) (local_set g o p r) s (local_set g o p r s) l) ∙ originals_are g o p r s)
+          (few_originals g o p r sizes perms s l)
 
       targets_short : (m : ℕ) → m < map_count g → length (local_targets m) < 2 ^ 63
       unfolding local_targets target_count

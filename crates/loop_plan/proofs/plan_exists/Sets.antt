@@ -45,7 +45,8 @@ module _ (g : MeshValue) (o : Owners) (p : Perms) (r : ℕ) where
     inverse_are s = inverse (set_size g s) (by_new p s) (λ x. owns o s x r) (λ x. imports_execute g o s x r) (λ x. imports_nonexecute g o s x r) (originals s) (groups_apart g o s r) refl
 
     pub few_originals : (s : ℕ) → s < set_count g → length (originals s) ≤ set_size g s
-    few_originals s l = number_few (set_size g s) (perm_in p s) (λ x. owns o s x r) (λ x. imports_execute g o s x r) (λ x. imports_nonexecute g o s x r) (originals s) (perms.numbers s l) (inverse_are s) (groups_apart g o s r)
+    few_originals s l = number_few (set_size g s) (perm_in p s) (λ x. owns o s x r) (λ x. imports_execute g o s x r)
+        (λ x. imports_nonexecute g o s x r) (originals s) (perms.numbers s l) (inverse_are s) (groups_apart g o s r)
 
     core_items : (s : ℕ) → s < set_count g → (vec_of (table (length (originals s)) (core_at s))).items ≡ table (length (originals s)) (core_at s)
     core_items s l = items_are (table (length (originals s)) (core_at s)) (let e = length_table (length (originals s)) (core_at s) in let f = few_originals s l in let b = sizes s in omega arith)

@@ -50,7 +50,9 @@ module _ {M : Type 0} (bytes : List ℕ) (result : Result M MeshRefusal) (view :
   pub found : IfOk result (λ m. Spells bytes (view m) × (total (view m) ≤ MESH_VALUES))
   found = go result (exact.found step finish Magic Fronts refl fronts_on stands_through OutOfMemory bytes result view answers)
     where
-      go : (r : Result M MeshRefusal) → IfOk r (λ m. (q : State) × Fronts (words 1 bytes) q × (finish q (last_line 1 (words 1 bytes)) ≡ Ok (view m))) → IfOk r (λ m. Spells bytes (view m) × (total (view m) ≤ MESH_VALUES))
+      go : (r : Result M MeshRefusal) → IfOk r
+          (λ m. (q : State) × Fronts (words 1 bytes) q × (finish q (last_line 1 (words 1 bytes)) ≡ Ok (view m)))
+          → IfOk r (λ m. Spells bytes (view m) × (total (view m) ≤ MESH_VALUES))
       go (Ok m) f = end_spells bytes (view m) (finish_is f.0 (last_line 1 (words 1 bytes)) (view m) (texts bytes) f.1 f.2)
       go (Err e) f = tt
 

@@ -20,7 +20,9 @@ unequal z y t = go (int_eq y z) refl
     go true b = let e : z ≡ y = sym ((Decides-int_eq y z).0 b) in let u : int_eq z y ≡ true = (Decides-int_eq z y).1 e in cc
     go false b = b
 
-stretch_by : (t : Bool) (z y : ℤ) (ys : List ℤ) → int_eq z y ≡ t → stretches (y ∷ ys) ≡ (1 + same_as y ys, y) ∷ stretches (drop (same_as y ys) ys) → onto_stretch z (stretches (y ∷ ys)) ≡ (1 + same_as z (y ∷ ys), z) ∷ stretches (drop (same_as z (y ∷ ys)) (y ∷ ys))
+stretch_by : (t : Bool) (z y : ℤ) (ys : List ℤ) → int_eq z y ≡ t → stretches (y ∷ ys) ≡ (1 + same_as y ys, y)
+    ∷ stretches (drop (same_as y ys) ys) → onto_stretch z (stretches (y ∷ ys)) ≡ (1 + same_as z (y ∷ ys), z)
+    ∷ stretches (drop (same_as z (y ∷ ys)) (y ∷ ys))
 stretch_by true z y ys t r =
     let e : y ≡ z = sym ((Decides-int_eq z y).0 t) in
     let b : int_eq y z ≡ true = (Decides-int_eq y z).1 e in
@@ -77,7 +79,9 @@ no_line form.Two [] h = refl
 no_line f (z ∷ zs) h = absurd (omega arith)
 
 -- one token is written
-pub turn : (f : Form) (rest back : List ℤ) (n : ℕ) (z : ℤ) (out out1 out2 : List ℕ) (b : Bool) → groups f rest ≡ (n, z) ∷ groups f back → out1 ≡ out ++ piece_text (n, z) → out2 ≡ out1 ++ cond b 10 32 ∷ [] → b ≡ nat_eq (length back) 0 → out2 ++ line_of (pieces_of f back) ≡ out ++ line_of (pieces_of f rest)
+pub turn : (f : Form) (rest back : List ℤ) (n : ℕ) (z : ℤ) (out out1 out2 : List ℕ) (b : Bool) → groups f rest ≡ (n, z) ∷ groups f back
+    → out1 ≡ out ++ piece_text (n, z) → out2 ≡ out1 ++ cond b 10 32 ∷ [] → b ≡ nat_eq (length back) 0
+    → out2 ++ line_of (pieces_of f back) ≡ out ++ line_of (pieces_of f rest)
 turn f rest back n z out out1 out2 b g p s e =
     let line : line_of (pieces_of f rest) ≡ piece_text (n, z) ++ cond b 10 32 ∷ line_of (pieces_of f back) =
     ap (λ gs. line_of (map piece_text gs)) g

@@ -44,7 +44,10 @@ u64_ok : (o : Option ℕ) (n : ℕ) → o ≡ Some n → n < 2 ^ 31 → u64_judg
 u64_ok o n e h = let b : nat_lt n (2 ^ 64) ≡ true = grind (arith, nat_tests) in rw e (rw b refl)
 
 -- the bytes before the first `*`, and those behind it
-star_by : (b : ℕ) (bs : List ℕ) (t : Bool) → no_star b ≡ t → nat_eq (cond t (1 + prefix_len no_star bs) 0) (suc (length bs)) ≡ false → (nat_eq (prefix_len no_star bs) (length bs) ≡ false → bs ≡ take (prefix_len no_star bs) bs ++ 42 ∷ drop 1 (drop (prefix_len no_star bs) bs)) → b ∷ bs ≡ take (cond t (1 + prefix_len no_star bs) 0) (b ∷ bs) ++ 42 ∷ drop 1 (drop (cond t (1 + prefix_len no_star bs) 0) (b ∷ bs))
+star_by : (b : ℕ) (bs : List ℕ) (t : Bool) → no_star b ≡ t → nat_eq (cond t (1 + prefix_len no_star bs) 0) (suc (length bs)) ≡ false
+    → (nat_eq (prefix_len no_star bs) (length bs) ≡ false → bs ≡ take (prefix_len no_star bs) bs ++ 42
+    ∷ drop 1 (drop (prefix_len no_star bs) bs)) → b ∷ bs ≡ take (cond t (1 + prefix_len no_star bs) 0) (b ∷ bs) ++ 42
+    ∷ drop 1 (drop (cond t (1 + prefix_len no_star bs) 0) (b ∷ bs))
 star_by b bs true t h r =
     let k : nat_eq (prefix_len no_star bs) (length bs) ≡ false = grind (arith, nat_tests) in
     rw (one-add (prefix_len no_star bs)) (ap (λ xs. b ∷ xs) (r k))
@@ -57,18 +60,23 @@ split_star (b ∷ bs) h = star_by b bs (no_star b) refl h (λ k. split_star bs k
 split_sound : (text : List ℕ) (n : ℕ) (z : ℤ) → piece_of form.Two text ≡ Values n z → Gives form.Two text n z × (0 < n) × (n < 2 ^ 31)
 split_sound text n z h = go (nat_eq (prefix_len no_star text) (length text)) refl h
   where
-    go : (t : Bool) → nat_eq (prefix_len no_star text) (length text) ≡ t → cond t (value_piece text) (run_piece (take (prefix_len no_star text) text) (drop 1 (drop (prefix_len no_star text) text))) ≡ Values n z → Gives form.Two text n z × (0 < n) × (n < 2 ^ 31)
+    go : (t : Bool) → nat_eq (prefix_len no_star text) (length text) ≡ t
+        → cond t (value_piece text) (run_piece (take (prefix_len no_star text) text) (drop 1 (drop (prefix_len no_star text) text))) ≡
+        Values n z → Gives form.Two text n z × (0 < n) × (n < 2 ^ 31)
     go true t h = let k = value_sound (i32_judged (integer_of text)) n z h in let one : n ≡ 1 = k.0 in (inl k, omega arith, omega arith)
     go false t h =
         let k = run_sound (u64_judged (number_of (take (prefix_len no_star text) text))) (i32_judged (integer_of (drop 1 (drop (prefix_len no_star text) text)))) n z h in
-        (inr (record { times = take (prefix_len no_star text) text; value = drop 1 (drop (prefix_len no_star text) text); whole = split_star text t; number = u64_some (number_of (take (prefix_len no_star text) text)) n k.0; some = k.2; fits = k.3; spells = k.1 }), k.2, k.3)
+        (inr (record { times = take (prefix_len no_star text) text; value = drop 1 (drop (prefix_len no_star text) text); whole =
+            split_star text t; number = u64_some (number_of (take (prefix_len no_star text) text)) n k.0; some = k.2; fits = k.3; spells =
+            k.1 }), k.2, k.3)
 
 pub piece_sound : (f : Form) (text : List ℕ) (n : ℕ) (z : ℤ) → piece_of f text ≡ Values n z → Gives f text n z × (0 < n) × (n < 2 ^ 31)
 piece_sound form.One text n z h = let k = value_sound (i32_judged (integer_of text)) n z h in let one : n ≡ 1 = k.0 in (k, omega arith, omega arith)
 piece_sound form.Two text n z h = split_sound text n z h
 
 -- numbers have no `*`
-digits_by : (m c : ℕ) (cs : List ℕ) (n : ℕ) (t : Bool) → is_ascii_digit c ≡ t → cond t (number_after (m * 10 + (c - 48)) cs) None ≡ Some n → (number_after (m * 10 + (c - 48)) cs ≡ Some n → list_all no_star cs ≡ true) → (no_star c && list_all no_star cs) ≡ true
+digits_by : (m c : ℕ) (cs : List ℕ) (n : ℕ) (t : Bool) → is_ascii_digit c ≡ t → cond t (number_after (m * 10 + (c - 48)) cs) None ≡ Some n
+    → (number_after (m * 10 + (c - 48)) cs ≡ Some n → list_all no_star cs ≡ true) → (no_star c && list_all no_star cs) ≡ true
 digits_by m c cs n true t h r = let b : no_star c ≡ true = grind (arith, nat_tests) in rw b (r h)
 digits_by m c cs n false t h r = cc
 
@@ -100,7 +108,8 @@ judged_some : (o : Option ℤ) (z : ℤ) → i32_judged o ≡ Ok z → (y : ℤ)
 judged_some None z h = cc
 judged_some (Some y) z h = (y, refl)
 
-len_by : (x : ℕ) (xs : List ℕ) (t : Bool) → no_star x ≡ t → (t && list_all no_star xs) ≡ true → (list_all no_star xs ≡ true → prefix_len no_star xs ≡ length xs) → cond t (1 + prefix_len no_star xs) 0 ≡ suc (length xs)
+len_by : (x : ℕ) (xs : List ℕ) (t : Bool) → no_star x ≡ t → (t && list_all no_star xs) ≡ true
+    → (list_all no_star xs ≡ true → prefix_len no_star xs ≡ length xs) → cond t (1 + prefix_len no_star xs) 0 ≡ suc (length xs)
 len_by x xs true t h r = one-add (prefix_len no_star xs) ∙ ap suc (r h)
 len_by x xs false t h r = cc
 
@@ -108,7 +117,9 @@ no_star_len : (xs : List ℕ) → list_all no_star xs ≡ true → prefix_len no
 no_star_len [] h = refl
 no_star_len (x ∷ xs) h = len_by x xs (no_star x) refl h (λ k. no_star_len xs k)
 
-star_len_by : (x : ℕ) (xs v : List ℕ) (t : Bool) → no_star x ≡ t → (t && list_all no_star xs) ≡ true → (list_all no_star xs ≡ true → prefix_len no_star (xs ++ 42 ∷ v) ≡ length xs) → cond t (1 + prefix_len no_star (xs ++ 42 ∷ v)) 0 ≡ suc (length xs)
+star_len_by : (x : ℕ) (xs v : List ℕ) (t : Bool) → no_star x ≡ t → (t && list_all no_star xs) ≡ true
+    → (list_all no_star xs ≡ true → prefix_len no_star (xs ++ 42 ∷ v) ≡ length xs)
+    → cond t (1 + prefix_len no_star (xs ++ 42 ∷ v)) 0 ≡ suc (length xs)
 star_len_by x xs v true t h r = one-add (prefix_len no_star (xs ++ 42 ∷ v)) ∙ ap suc (r h)
 star_len_by x xs v false t h r = cc
 

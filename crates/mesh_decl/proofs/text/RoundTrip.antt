@@ -35,7 +35,8 @@ whole_text f es =
     ∙ ap (λ xs. line_of (header f) ++ xs) (sym (flat_map-append line_of (flat_map (entry_lines f) es) ((codes "done" ∷ []) ∷ [])))
 
 -- one entry more is written
-pub text_more : (f : Form) (head out out1 : List ℕ) (es : List Named) (e : Named) → out ≡ head ++ flat_map (entry_text f) es → out1 ≡ out ++ entry_text f e → out1 ≡ head ++ flat_map (entry_text f) (es ++ e ∷ [])
+pub text_more : (f : Form) (head out out1 : List ℕ) (es : List Named) (e : Named) → out ≡ head ++ flat_map (entry_text f) es
+    → out1 ≡ out ++ entry_text f e → out1 ≡ head ++ flat_map (entry_text f) (es ++ e ∷ [])
 text_more f head out out1 es e h k =
     k ∙ ap (λ xs. xs ++ entry_text f e) h
     ∙ append_assoc head (flat_map (entry_text f) es) (entry_text f e)
@@ -80,7 +81,9 @@ groups_stretches [] f = tt
 groups_stretches (z ∷ zs) f = groups_onto z (stretches zs) f.0 (groups_stretches zs f.1)
 
 -- what the crates below promise: printed numbers are read again, and written lines are cut again
-module _ (printed : (z : ℤ) → FitsSigned w32 z → i32_judged (integer_of (signed_decimal z)) ≡ Ok z) (counted : (n : ℕ) → n < 2 ^ 64 → number_of (decimal n) ≡ Some n) (cut : (line : ℕ) (lines : List (List (List ℕ))) → AreLines lines → words line (text_of_lines lines) ≡ placed line lines) where
+module _ (printed : (z : ℤ) → FitsSigned w32 z → i32_judged (integer_of (signed_decimal z)) ≡ Ok z)
+    (counted : (n : ℕ) → n < 2 ^ 64 → number_of (decimal n) ≡ Some n)
+    (cut : (line : ℕ) (lines : List (List (List ℕ))) → AreLines lines → words line (text_of_lines lines) ≡ placed line lines) where
   pieces_one : (zs : List ℤ) → FitI32 zs → ArePieces form.One (map piece_text (map alone zs)) zs
   pieces_one [] f = refl
   pieces_one (z ∷ zs) f = (z ∷ [], zs, refl, (1, z, (refl, printed z f.0), refl), pieces_one zs f.1)
@@ -116,7 +119,8 @@ module _ (printed : (z : ℤ) → FitsSigned w32 z → i32_judged (integer_of (s
   entries_spell : (f : Form) (before es : List Named) → HaveSpelling before es → AreEntries f before (concat (flat_map (entry_lines f) es)) es
   entries_spell f before [] h = refl
   entries_spell f before (e ∷ es) h =
-      (concat (entry_lines f e), concat (flat_map (entry_lines f) es), concat_append (entry_lines f e) (flat_map (entry_lines f) es), entry_spells f e.0 e.1 h.1 h.2, h.0, entries_spell f (before ++ e ∷ []) es h.3)
+      (concat (entry_lines f e), concat (flat_map (entry_lines f) es), concat_append (entry_lines f e) (flat_map (entry_lines f) es),
+          entry_spells f e.0 e.1 h.1 h.2, h.0, entries_spell f (before ++ e ∷ []) es h.3)
 
   -- every word is a token
   piece_token : (n : ℕ) (z : ℤ) → n < 2 ^ 31 → FitsSigned w32 z → IsToken (piece_text (n, z))

@@ -42,7 +42,9 @@ pub step-many_name : (f : Form) (es : List Named) (w : Word) → step (ManyName 
 unfolding step
 step-many_name f es w = refl
 
-pub step-one_value : (f : Form) (es : List Named) (name : List ℕ) (w : Word) → step (OneValue f es name) w ≡ onto (one_of (total es) w.line (i32_judged (integer_of w.text))) (λ z. Between f (es ++ (name, One z) ∷ []))
+pub step-one_value : (f : Form) (es : List Named) (name : List ℕ) (w : Word)
+    → step (OneValue f es name) w ≡ onto (one_of (total es) w.line (i32_judged (integer_of w.text)))
+    (λ z. Between f (es ++ (name, One z) ∷ []))
 unfolding step
 step-one_value f es name w = refl
 
@@ -50,7 +52,9 @@ pub step-count : (f : Form) (es : List Named) (name : List ℕ) (w : Word) → s
 unfolding step
 step-count f es name w = refl
 
-pub step-pieces : (f : Form) (es : List Named) (name : List ℕ) (left : ℕ) (zs : List ℤ) (w : Word) → step (Pieces f es name left zs) w ≡ onto (given left w.line (piece_of f w.text)) (λ g. filled f es name (left - g.0) (zs ++ replicate g.0 g.1))
+pub step-pieces : (f : Form) (es : List Named) (name : List ℕ) (left : ℕ) (zs : List ℤ) (w : Word)
+    → step (Pieces f es name left zs) w ≡ onto (given left w.line (piece_of f w.text))
+    (λ g. filled f es name (left - g.0) (zs ++ replicate g.0 g.1))
 unfolding step
 step-pieces f es name left zs w = refl
 
@@ -64,39 +68,61 @@ filled-more f es name left zs h = let e : nat_eq left 0 ≡ false = grind (arith
 pub one_named : (f : Form) (es : List Named) (u v : Uncut) (w : Word) (name : List ℕ) → IsNext u v w → named es w ≡ Ok name → run_from (OneName f es) u ≡ run_from (OneValue f es name) v
 one_named f es u v w name n h = run_onto step finish (OneName f es) u v w name (named es w) (OneValue f es) n (step-one_name f es w) h
 
-pub one_unnamed : (f : Form) (es : List Named) (u v : Uncut) (w : Word) (e : MeshRefusal) → IsNext u v w → ((e ≡ OutOfMemory) ⊎ (named es w ≡ Err e)) → (e ≡ OutOfMemory) ⊎ (run_from (OneName f es) u ≡ Err e)
+pub one_unnamed : (f : Form) (es : List Named) (u v : Uncut) (w : Word) (e : MeshRefusal) → IsNext u v w
+    → ((e ≡ OutOfMemory) ⊎ (named es w ≡ Err e)) → (e ≡ OutOfMemory) ⊎ (run_from (OneName f es) u ≡ Err e)
 one_unnamed f es u v w e n h = or_refused step finish OutOfMemory (OneName f es) u v w e (named es w) (OneValue f es) n (step-one_name f es w) h
 
 pub many_named : (f : Form) (es : List Named) (u v : Uncut) (w : Word) (name : List ℕ) → IsNext u v w → named es w ≡ Ok name → run_from (ManyName f es) u ≡ run_from (Count f es name) v
 many_named f es u v w name n h = run_onto step finish (ManyName f es) u v w name (named es w) (Count f es) n (step-many_name f es w) h
 
-pub many_unnamed : (f : Form) (es : List Named) (u v : Uncut) (w : Word) (e : MeshRefusal) → IsNext u v w → ((e ≡ OutOfMemory) ⊎ (named es w ≡ Err e)) → (e ≡ OutOfMemory) ⊎ (run_from (ManyName f es) u ≡ Err e)
+pub many_unnamed : (f : Form) (es : List Named) (u v : Uncut) (w : Word) (e : MeshRefusal) → IsNext u v w
+    → ((e ≡ OutOfMemory) ⊎ (named es w ≡ Err e)) → (e ≡ OutOfMemory) ⊎ (run_from (ManyName f es) u ≡ Err e)
 many_unnamed f es u v w e n h = or_refused step finish OutOfMemory (ManyName f es) u v w e (named es w) (Count f es) n (step-many_name f es w) h
 
-pub one_valued : (f : Form) (es : List Named) (name : List ℕ) (so_far : ℕ) (u v : Uncut) (w : Word) (z : ℤ) → so_far ≡ total es → IsNext u v w → Ok z ≡ one_of so_far w.line (i32_judged (integer_of w.text)) → run_from (OneValue f es name) u ≡ run_from (Between f (es ++ (name, One z) ∷ [])) v
-one_valued f es name so_far u v w z t n h = run_onto step finish (OneValue f es name) u v w z (one_of (total es) w.line (i32_judged (integer_of w.text))) (λ y. Between f (es ++ (name, One y) ∷ [])) n (step-one_value f es name w) (ap (λ k. one_of k w.line (i32_judged (integer_of w.text))) (sym t) ∙ sym h)
+pub one_valued : (f : Form) (es : List Named) (name : List ℕ) (so_far : ℕ) (u v : Uncut) (w : Word) (z : ℤ) → so_far ≡ total es
+    → IsNext u v w → Ok z ≡ one_of so_far w.line (i32_judged (integer_of w.text))
+    → run_from (OneValue f es name) u ≡ run_from (Between f (es ++ (name, One z) ∷ [])) v
+one_valued f es name so_far u v w z t n h = run_onto step finish (OneValue f es name) u v w z
+    (one_of (total es) w.line (i32_judged (integer_of w.text))) (λ y. Between f (es ++ (name, One y) ∷ [])) n (step-one_value f es name w)
+    (ap (λ k. one_of k w.line (i32_judged (integer_of w.text))) (sym t) ∙ sym h)
 
-pub one_refused : (f : Form) (es : List Named) (name : List ℕ) (so_far : ℕ) (u v : Uncut) (w : Word) (e : MeshRefusal) → so_far ≡ total es → IsNext u v w → Err e ≡ one_of so_far w.line (i32_judged (integer_of w.text)) → (e ≡ OutOfMemory) ⊎ (run_from (OneValue f es name) u ≡ Err e)
-one_refused f es name so_far u v w e t n h = or_refused step finish OutOfMemory (OneValue f es name) u v w e (one_of (total es) w.line (i32_judged (integer_of w.text))) (λ y. Between f (es ++ (name, One y) ∷ [])) n (step-one_value f es name w) (inr (ap (λ k. one_of k w.line (i32_judged (integer_of w.text))) (sym t) ∙ sym h))
+pub one_refused : (f : Form) (es : List Named) (name : List ℕ) (so_far : ℕ) (u v : Uncut) (w : Word) (e : MeshRefusal) → so_far ≡ total es
+    → IsNext u v w → Err e ≡ one_of so_far w.line (i32_judged (integer_of w.text)) → (e ≡ OutOfMemory)
+    ⊎ (run_from (OneValue f es name) u ≡ Err e)
+one_refused f es name so_far u v w e t n h = or_refused step finish OutOfMemory (OneValue f es name) u v w e
+    (one_of (total es) w.line (i32_judged (integer_of w.text))) (λ y. Between f (es ++ (name, One y) ∷ [])) n (step-one_value f es name w)
+    (inr (ap (λ k. one_of k w.line (i32_judged (integer_of w.text))) (sym t) ∙ sym h))
 
-pub counted : (f : Form) (es : List Named) (name : List ℕ) (so_far : ℕ) (u v : Uncut) (w : Word) (k : ℕ) → so_far ≡ total es → IsNext u v w → Ok k ≡ count_of so_far w.line (number_of w.text) → run_from (Count f es name) u ≡ run_from (filled f es name k []) v
-counted f es name so_far u v w k t n h = run_onto step finish (Count f es name) u v w k (count_of (total es) w.line (number_of w.text)) (λ y. filled f es name y []) n (step-count f es name w) (ap (λ x. count_of x w.line (number_of w.text)) (sym t) ∙ sym h)
+pub counted : (f : Form) (es : List Named) (name : List ℕ) (so_far : ℕ) (u v : Uncut) (w : Word) (k : ℕ) → so_far ≡ total es → IsNext u v w
+    → Ok k ≡ count_of so_far w.line (number_of w.text) → run_from (Count f es name) u ≡ run_from (filled f es name k []) v
+counted f es name so_far u v w k t n h = run_onto step finish (Count f es name) u v w k (count_of (total es) w.line (number_of w.text))
+    (λ y. filled f es name y []) n (step-count f es name w) (ap (λ x. count_of x w.line (number_of w.text)) (sym t) ∙ sym h)
 
-pub count_refused : (f : Form) (es : List Named) (name : List ℕ) (so_far : ℕ) (u v : Uncut) (w : Word) (e : MeshRefusal) → so_far ≡ total es → IsNext u v w → Err e ≡ count_of so_far w.line (number_of w.text) → (e ≡ OutOfMemory) ⊎ (run_from (Count f es name) u ≡ Err e)
-count_refused f es name so_far u v w e t n h = or_refused step finish OutOfMemory (Count f es name) u v w e (count_of (total es) w.line (number_of w.text)) (λ y. filled f es name y []) n (step-count f es name w) (inr (ap (λ x. count_of x w.line (number_of w.text)) (sym t) ∙ sym h))
+pub count_refused : (f : Form) (es : List Named) (name : List ℕ) (so_far : ℕ) (u v : Uncut) (w : Word) (e : MeshRefusal) → so_far ≡ total es
+    → IsNext u v w → Err e ≡ count_of so_far w.line (number_of w.text) → (e ≡ OutOfMemory) ⊎ (run_from (Count f es name) u ≡ Err e)
+count_refused f es name so_far u v w e t n h = or_refused step finish OutOfMemory (Count f es name) u v w e
+    (count_of (total es) w.line (number_of w.text)) (λ y. filled f es name y []) n (step-count f es name w)
+    (inr (ap (λ x. count_of x w.line (number_of w.text)) (sym t) ∙ sym h))
 
-pub piece_given : (f : Form) (es : List Named) (name : List ℕ) (left : ℕ) (zs ys : List ℤ) (u v : Uncut) (w : Word) (k : ℕ) (z : ℤ) → 0 < left → IsNext u v w → Ok (k, z) ≡ given left w.line (piece_of f w.text) → ys ≡ zs ++ replicate k z → run_from (filled f es name left zs) u ≡ run_from (filled f es name (left - k) ys) v
+pub piece_given : (f : Form) (es : List Named) (name : List ℕ) (left : ℕ) (zs ys : List ℤ) (u v : Uncut) (w : Word) (k : ℕ) (z : ℤ)
+    → 0 < left → IsNext u v w → Ok (k, z) ≡ given left w.line (piece_of f w.text) → ys ≡ zs ++ replicate k z
+    → run_from (filled f es name left zs) u ≡ run_from (filled f es name (left - k) ys) v
 piece_given f es name left zs ys u v w k z more n h e =
     ap (λ p. run_from p u) (filled-more f es name left zs more)
-    ∙ run_onto step finish (Pieces f es name left zs) u v w (k, z) (given left w.line (piece_of f w.text)) (λ g. filled f es name (left - g.0) (zs ++ replicate g.0 g.1)) n (step-pieces f es name left zs w) (sym h)
+    ∙ run_onto step finish (Pieces f es name left zs) u v w (k, z) (given left w.line (piece_of f w.text))
+        (λ g. filled f es name (left - g.0) (zs ++ replicate g.0 g.1)) n (step-pieces f es name left zs w) (sym h)
     ∙ ap (λ xs. run_from (filled f es name (left - k) xs) v) (sym e)
 
-pub piece_refused : (f : Form) (es : List Named) (name : List ℕ) (left : ℕ) (zs : List ℤ) (u v : Uncut) (w : Word) (e : MeshRefusal) → 0 < left → IsNext u v w → Err e ≡ given left w.line (piece_of f w.text) → run_from (filled f es name left zs) u ≡ Err e
+pub piece_refused : (f : Form) (es : List Named) (name : List ℕ) (left : ℕ) (zs : List ℤ) (u v : Uncut) (w : Word) (e : MeshRefusal)
+    → 0 < left → IsNext u v w → Err e ≡ given left w.line (piece_of f w.text) → run_from (filled f es name left zs) u ≡ Err e
 piece_refused f es name left zs u v w e more n h =
     ap (λ p. run_from p u) (filled-more f es name left zs more)
-    ∙ run_refused step finish (Pieces f es name left zs) u v w e n (step-pieces f es name left zs w ∙ onto_err (given left w.line (piece_of f w.text)) (λ g. filled f es name (left - g.0) (zs ++ replicate g.0 g.1)) e (sym h))
+    ∙ run_refused step finish (Pieces f es name left zs) u v w e n
+        (step-pieces f es name left zs w ∙ onto_err (given left w.line (piece_of f w.text))
+        (λ g. filled f es name (left - g.0) (zs ++ replicate g.0 g.1)) e (sym h))
 
-pub piece_missing : (f : Form) (es : List Named) (name : List ℕ) (left : ℕ) (zs : List ℤ) (u : Uncut) (e : MeshRefusal) → 0 < left → first_of u ≡ None → e ≡ WrongCount u.last → run_from (filled f es name left zs) u ≡ Err e
+pub piece_missing : (f : Form) (es : List Named) (name : List ℕ) (left : ℕ) (zs : List ℤ) (u : Uncut) (e : MeshRefusal) → 0 < left
+    → first_of u ≡ None → e ≡ WrongCount u.last → run_from (filled f es name left zs) u ≡ Err e
 piece_missing f es name left zs u e more n h =
     ap (λ p. run_from p u) (filled-more f es name left zs more) ∙ run_end step finish (Pieces f es name left zs) u (Err e) n (ap Err (sym h))
 

@@ -33,7 +33,8 @@ unfolding given
 given_one left line z h = let e : nat_le 1 left ≡ true = grind (arith, nat_tests) in rw e refl
 
 -- the token that next_short passes gives one value
-pub short_given : (f : Form) (u v : Uncut) (left : ℕ) (z : ℤ) → 0 < left → FitsSigned w32 z → Some z ≡ short_of (first_of u) → v ≡ rest_of u → (w : Word) × IsNext u v w × (Ok (1, z) ≡ given left w.line (piece_of f w.text))
+pub short_given : (f : Form) (u v : Uncut) (left : ℕ) (z : ℤ) → 0 < left → FitsSigned w32 z → Some z ≡ short_of (first_of u) → v ≡ rest_of u
+    → (w : Word) × IsNext u v w × (Ok (1, z) ≡ given left w.line (piece_of f w.text))
 short_given f u v left z more i h r =
     let k = short_word (first_of u) z h in
     let is : IsValue k.0.text z = ap i32_judged k.2 ∙ rw (fits z i) refl in (

@@ -36,18 +36,25 @@ pieces_more f [] p zs ys a i = (ys, [], (ap (λ xs. xs ++ ys) a ∙ sym (append-
 pieces_more f (q ∷ ps) p zs ys a i = (a.0, a.1 ++ ys, (ap (λ xs. xs ++ ys) a.2 ∙ append_assoc a.0 a.1 ys), a.3, pieces_more f ps p a.1 ys a.4 i)
 
 -- one entry more
-entries_more : (f : Form) (before : List Named) (ts front : List (List ℕ)) (es : List Named) (e : Named) → AreEntries f before ts es → IsEntry f front e.0 e.1 → IsNew e.0 (before ++ es) → AreEntries f before (ts ++ front) (es ++ e ∷ [])
+entries_more : (f : Form) (before : List Named) (ts front : List (List ℕ)) (es : List Named) (e : Named) → AreEntries f before ts es
+    → IsEntry f front e.0 e.1 → IsNew e.0 (before ++ es) → AreEntries f before (ts ++ front) (es ++ e ∷ [])
 entries_more f before ts front [] e a i n = (front, [], (ap (λ xs. xs ++ front) a ∙ sym (append-nil front)), i, subst (IsNew e.0) (append-nil before) n, refl)
-entries_more f before ts front (x ∷ es) e a i n = (a.0, a.1 ++ front, (ap (λ xs. xs ++ front) a.2 ∙ append_assoc a.0 a.1 front), a.3, a.4, entries_more f (before ++ x ∷ []) a.1 front es e a.5 i (subst (IsNew e.0) (sym (append_assoc before (x ∷ []) es)) n))
+entries_more f before ts front (x ∷ es) e a i n =
+    (a.0, a.1 ++ front, (ap (λ xs. xs ++ front) a.2 ∙ append_assoc a.0 a.1 front), a.3, a.4,
+    entries_more f (before ++ x ∷ []) a.1 front es e a.5 i (subst (IsNew e.0) (sym (append_assoc before (x ∷ []) es)) n))
 
 mesh_more : (f : Form) (ts front : List (List ℕ)) (es : List Named) (e : Named) → AreMesh f ts es → IsEntry f front e.0 e.1 → IsNew e.0 es → AreMesh f (ts ++ front) (es ++ e ∷ [])
 mesh_more f ts front es e m i n = (m.0 ++ front, (ap (λ xs. xs ++ front) m.1 ∙ append_assoc (header f) m.0 front), entries_more f [] m.0 front es e m.2 i n)
 
-some_more : (f : Form) (ts front : List (List ℕ)) (es : List Named) (e : Named) → AreSome f ts es → IsEntry f front e.0 e.1 → IsNew e.0 es → total es + size_of e ≤ MESH_VALUES → AreSome f (ts ++ front) (es ++ e ∷ [])
+some_more : (f : Form) (ts front : List (List ℕ)) (es : List Named) (e : Named) → AreSome f ts es → IsEntry f front e.0 e.1 → IsNew e.0 es
+    → total es + size_of e ≤ MESH_VALUES → AreSome f (ts ++ front) (es ++ e ∷ [])
 some_more f ts front es e s i n r = (mesh_more f ts front es e s.0 i n, rw (sum_by_push size_of es e) r)
 
 -- an array of which values are awaited, or none
-filled_stands : (f : Form) (es : List Named) (name : List ℕ) (left : ℕ) (zs : List ℤ) (front : List (List ℕ)) (count : List ℕ) (pieces : List (List ℕ)) (ts : List (List ℕ)) → ts ≡ front ++ codes "ints" ∷ name ∷ count ∷ pieces → AreSome f front es → IsNew name es → number_of count ≡ Some (length zs + left) → length zs + left < 2 ^ 31 → total es + (length zs + left) ≤ MESH_VALUES → ArePieces f pieces zs → Stands ts (filled f es name left zs)
+filled_stands : (f : Form) (es : List Named) (name : List ℕ) (left : ℕ) (zs : List ℤ) (front : List (List ℕ)) (count : List ℕ)
+    (pieces : List (List ℕ)) (ts : List (List ℕ)) → ts ≡ front ++ codes "ints" ∷ name ∷ count ∷ pieces → AreSome f front es → IsNew name es
+    → number_of count ≡ Some (length zs + left) → length zs + left < 2 ^ 31 → total es + (length zs + left) ≤ MESH_VALUES
+    → ArePieces f pieces zs → Stands ts (filled f es name left zs)
 filled_stands f es name left zs front count pieces ts whole some new number fits room are = go (nat_eq left 0) refl
   where
     go : (t : Bool) → nat_eq left 0 ≡ t → Stands ts (cond t (Between f (es ++ (name, Many zs) ∷ [])) (Pieces f es name left zs))
@@ -74,7 +81,8 @@ word_of keyword.Ints = codes "ints"
 word_of keyword.Done = codes "done"
 
 keyword_is : (text : List ℕ) (k : Keyword) → keyword_of text ≡ Some k → text ≡ word_of k
-keyword_is text w h = elim (cond_cases (bytes_eq text (codes "int")) (Some keyword.Int) (cond (bytes_eq text (codes "ints")) (Some keyword.Ints) (cond (bytes_eq text (codes "done")) (Some keyword.Done) None)) (Some w) h) [
+keyword_is text w h = elim (cond_cases (bytes_eq text (codes "int")) (Some keyword.Int)
+    (cond (bytes_eq text (codes "ints")) (Some keyword.Ints) (cond (bytes_eq text (codes "done")) (Some keyword.Done) None)) (Some w) h) [
   | inl k ↦ let e : keyword.Int ≡ w = cc in bytes_eq_same text (codes "int") k.0 ∙ ap word_of e
   | inr k ↦ elim (cond_cases (bytes_eq text (codes "ints")) (Some keyword.Ints) (cond (bytes_eq text (codes "done")) (Some keyword.Done) None) (Some w) k.1) [
     | inl m ↦ let e : keyword.Ints ≡ w = cc in bytes_eq_same text (codes "ints") m.0 ∙ ap word_of e
@@ -166,7 +174,8 @@ behind_version q ts w s h =
     let none : AreSome v.0 (ts ++ w.text ∷ []) [] = (([], e, refl), zero-le) in
     subst (Stands (ts ++ w.text ∷ [])) v.2 none
 
-behind_between : (f : Form) (es : List Named) (q : State) (ts : List (List ℕ)) (w : Word) → AreSome f ts es → began f es (keyword_of w.text) (piece_of f w.text) w.line ≡ Ok q → Stands (ts ++ w.text ∷ []) q
+behind_between : (f : Form) (es : List Named) (q : State) (ts : List (List ℕ)) (w : Word) → AreSome f ts es
+    → began f es (keyword_of w.text) (piece_of f w.text) w.line ≡ Ok q → Stands (ts ++ w.text ∷ []) q
 behind_between f es q ts w s h =
     let b = began_is f es (keyword_of w.text) (piece_of f w.text) w.line q h in
     subst (Stands (ts ++ w.text ∷ [])) b.2 (begun_stands f es b.0 ts w.text (keyword_is w.text b.0 b.1) s)
@@ -185,7 +194,9 @@ behind_many_name f es q ts w s h =
     let stands : Stands (ts ++ w.text ∷ []) (Count f es o.0) = (s.0, with_one ts s.0 (codes "ints" ∷ []) w.text o.0 s.1 n.0, s.2, n.1) in
     subst (Stands (ts ++ w.text ∷ [])) o.2 stands
 
-behind_one_value : (f : Form) (es : List Named) (name : List ℕ) (q : State) (ts : List (List ℕ)) (w : Word) → Stands ts (OneValue f es name) → onto (one_of (total es) w.line (i32_judged (integer_of w.text))) (λ z. Between f (es ++ (name, One z) ∷ [])) ≡ Ok q → Stands (ts ++ w.text ∷ []) q
+behind_one_value : (f : Form) (es : List Named) (name : List ℕ) (q : State) (ts : List (List ℕ)) (w : Word) → Stands ts (OneValue f es name)
+    → onto (one_of (total es) w.line (i32_judged (integer_of w.text))) (λ z. Between f (es ++ (name, One z) ∷ [])) ≡ Ok q
+    → Stands (ts ++ w.text ∷ []) q
 behind_one_value f es name q ts w s h =
     let o = onto_is (one_of (total es) w.line (i32_judged (integer_of w.text))) (λ z. Between f (es ++ (name, One z) ∷ [])) q h in
     let v = one_is (total es) w.line (i32_judged (integer_of w.text)) o.0 o.1 in
@@ -193,16 +204,21 @@ behind_one_value f es name q ts w s h =
     let stands : AreSome f (s.0 ++ codes "int" ∷ name ∷ w.text ∷ []) (es ++ (name, One o.0) ∷ []) = some_more f s.0 (codes "int" ∷ name ∷ w.text ∷ []) es (name, One o.0) s.2 entry s.3 v.1 in
     subst (Stands (ts ++ w.text ∷ [])) o.2 (subst (λ xs. AreSome f xs (es ++ (name, One o.0) ∷ [])) (sym (with_one ts s.0 (codes "int" ∷ name ∷ []) w.text w.text s.1 refl)) stands)
 
-behind_count : (f : Form) (es : List Named) (name : List ℕ) (q : State) (ts : List (List ℕ)) (w : Word) → Stands ts (Count f es name) → onto (count_of (total es) w.line (number_of w.text)) (λ n. filled f es name n []) ≡ Ok q → Stands (ts ++ w.text ∷ []) q
+behind_count : (f : Form) (es : List Named) (name : List ℕ) (q : State) (ts : List (List ℕ)) (w : Word) → Stands ts (Count f es name)
+    → onto (count_of (total es) w.line (number_of w.text)) (λ n. filled f es name n []) ≡ Ok q → Stands (ts ++ w.text ∷ []) q
 behind_count f es name q ts w s h =
     let o = onto_is (count_of (total es) w.line (number_of w.text)) (λ n. filled f es name n []) q h in
     let v = count_is (total es) w.line (number_of w.text) o.0 o.1 in
     let low : o.0 < 2 ^ 31 = v.1 in
     let room : total es + o.0 ≤ MESH_VALUES = v.2 in
     let same : o.0 ≡ 0 + o.0 = omega arith in
-    subst (Stands (ts ++ w.text ∷ [])) o.2 (filled_stands f es name o.0 [] s.0 w.text [] (ts ++ w.text ∷ []) (with_one ts s.0 (codes "ints" ∷ name ∷ []) w.text w.text s.1 refl) s.2 s.3 (v.0 ∙ ap Some same) (omega arith) (omega arith) refl)
+    subst (Stands (ts ++ w.text ∷ [])) o.2
+        (filled_stands f es name o.0 [] s.0 w.text [] (ts ++ w.text ∷ [])
+        (with_one ts s.0 (codes "ints" ∷ name ∷ []) w.text w.text s.1 refl) s.2 s.3 (v.0 ∙ ap Some same) (omega arith) (omega arith) refl)
 
-behind_pieces : (f : Form) (es : List Named) (name : List ℕ) (left : ℕ) (zs : List ℤ) (q : State) (ts : List (List ℕ)) (w : Word) → Stands ts (Pieces f es name left zs) → onto (given left w.line (piece_of f w.text)) (λ g. filled f es name (left - g.0) (zs ++ replicate g.0 g.1)) ≡ Ok q → Stands (ts ++ w.text ∷ []) q
+behind_pieces : (f : Form) (es : List Named) (name : List ℕ) (left : ℕ) (zs : List ℤ) (q : State) (ts : List (List ℕ)) (w : Word)
+    → Stands ts (Pieces f es name left zs) → onto (given left w.line (piece_of f w.text))
+    (λ g. filled f es name (left - g.0) (zs ++ replicate g.0 g.1)) ≡ Ok q → Stands (ts ++ w.text ∷ []) q
 behind_pieces f es name left zs q ts w s h =
     let o = onto_is (given left w.line (piece_of f w.text)) (λ g. filled f es name (left - g.0) (zs ++ replicate g.0 g.1)) q h in
     let n = o.0.0 in

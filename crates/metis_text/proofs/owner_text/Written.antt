@@ -114,7 +114,8 @@ module _ (g : MeshValue) (ranks : ℕ) where
       (set_name g s, decimal (set_size g s), map decimal rs, refl, (names s f.0).named, counted (set_size g s) (let low = sizes s in omega (arith, low)), f.1, ranks_are rs f.2),
       subst (λ k. slice_get (done ++ None ∷ replicate (length rest) None) k ≡ Some None) len (get_behind done (replicate (length rest) None) None),
       subst (λ before. AreSets g ranks (tokens_in (lines_from g (suc s) rest)) (given_from (suc s) rest) before (done ++ map (λ rs. Some rs) (rs ∷ rest)))
-          (sym (subst (λ k. slice_set (done ++ None ∷ replicate (length rest) None) k (Some rs) ≡ (done ++ Some rs ∷ []) ++ replicate (length rest) None) len (set_behind done (replicate (length rest) None) None (Some rs))))
+          (sym (subst (λ k. slice_set (done ++ None ∷ replicate (length rest) None) k (Some rs) ≡ (done ++ Some rs ∷ []) ++ replicate
+              (length rest) None) len (set_behind done (replicate (length rest) None) None (Some rs))))
           (subst (λ after. AreSets g ranks (tokens_in (lines_from g (suc s) rest)) (given_from (suc s) rest) ((done ++ Some rs ∷ []) ++ replicate (length rest) None) after)
           (append_assoc done (Some rs ∷ []) (map (λ rs. Some rs) rest))
           (sets_are (suc s) rest (done ++ Some rs ∷ []) (length_more done (Some rs) ∙ ap suc len) f.3)),

@@ -25,7 +25,9 @@ words-step line i bs h b = ap (words line) (drop-cons bs i 0 h) ∙ words-blank 
 abbrev pub Token : ℕ → ℕ → List ℕ → Type 0
 Token line b bs = words line (b ∷ bs) ≡ (record { text = b ∷ take (prefix_len dark bs) bs; line = line }) ∷ words line (drop (prefix_len dark bs) bs)
 
-token_then : (line b c : ℕ) (cs : List ℕ) (t : Bool) → blank c ≡ t → (blank c ≡ false → Token line c cs) → with_byte line b (c ∷ cs) (words line (c ∷ cs)) ≡ (record { text = b ∷ take (prefix_len dark (c ∷ cs)) (c ∷ cs); line = line }) ∷ words line (drop (prefix_len dark (c ∷ cs)) (c ∷ cs))
+token_then : (line b c : ℕ) (cs : List ℕ) (t : Bool) → blank c ≡ t → (blank c ≡ false → Token line c cs)
+    → with_byte line b (c ∷ cs) (words line (c ∷ cs)) ≡ (record { text = b ∷ take (prefix_len dark (c ∷ cs)) (c ∷ cs); line = line })
+    ∷ words line (drop (prefix_len dark (c ∷ cs)) (c ∷ cs))
 token_then line b c cs true t r = rw t refl
 token_then line b c cs false t r = rw t (rw (one-add (prefix_len dark cs)) (rw (r t) refl))
 
@@ -42,13 +44,17 @@ some_left : (line : ℕ) (bs : List ℕ) → IsDark bs → 0 < prefix_len dark b
 some_left line [] d n = absurd (omega arith)
 some_left line (b ∷ bs) d n = rw d (rw (one-add (prefix_len dark bs)) (words-token line b bs d))
 
-pub no_token : (u : Uncut) (last line at : ℕ) (bytes rest : List ℕ) → record { last = last; words = words line bytes } ≡ u → words line bytes ≡ words at rest → IsDark rest → prefix_len dark rest ≡ 0 → (None ≡ first_of u) × (record { last = last; words = words at rest } ≡ rest_of u)
+pub no_token : (u : Uncut) (last line at : ℕ) (bytes rest : List ℕ) → record { last = last; words = words line bytes } ≡ u
+    → words line bytes ≡ words at rest → IsDark rest → prefix_len dark rest ≡ 0 → (None ≡ first_of u)
+    × (record { last = last; words = words at rest } ≡ rest_of u)
 no_token u last line at bytes rest v w d n =
     let e : words at rest ≡ [] = none_left at rest d n in
     let is : record { last = last; words = [] } ≡ u = ap (λ ws. record { last = last; words = ws }) (sym (w ∙ e)) ∙ v in
     (ap first_of is, ap (λ ws. record { last = last; words = ws }) e ∙ ap rest_of is)
 
-pub a_token : (u : Uncut) (last line at n : ℕ) (bytes rest text back : List ℕ) → record { last = last; words = words line bytes } ≡ u → words line bytes ≡ words at rest → IsDark rest → n ≡ prefix_len dark rest → (n ≡ 0 → ⊥) → text ≡ take n rest → back ≡ drop n rest → (Some (record { text = text; line = at }) ≡ first_of u) × (record { last = at; words = words at back } ≡ rest_of u)
+pub a_token : (u : Uncut) (last line at n : ℕ) (bytes rest text back : List ℕ) → record { last = last; words = words line bytes } ≡ u
+    → words line bytes ≡ words at rest → IsDark rest → n ≡ prefix_len dark rest → (n ≡ 0 → ⊥) → text ≡ take n rest → back ≡ drop n rest
+    → (Some (record { text = text; line = at }) ≡ first_of u) × (record { last = at; words = words at back } ≡ rest_of u)
 a_token u last line at n bytes rest text back v w d size some front behind =
     let full : 0 < prefix_len dark rest = omega arith in
     let token : words line bytes ≡ (record { text = text; line = at }) ∷ words at back =
@@ -62,13 +68,16 @@ lf line at b h a = grind (arith, nat_tests)
 no_lf : (line at b : ℕ) → (b ≡ 10 → ⊥) → at ≡ line → at ≡ line_after line b
 no_lf line at b h a = grind (arith, nat_tests)
 
-pub skipped : (start line i at : ℕ) (bs : List ℕ) → words start bs ≡ words line (drop i bs) → i < length bs → blank (get_or bs i 0) ≡ true → at ≡ line_after line (get_or bs i 0) → words start bs ≡ words at (drop (i + 1) bs)
+pub skipped : (start line i at : ℕ) (bs : List ℕ) → words start bs ≡ words line (drop i bs) → i < length bs → blank (get_or bs i 0) ≡ true
+    → at ≡ line_after line (get_or bs i 0) → words start bs ≡ words at (drop (i + 1) bs)
 skipped start line i at bs s h b a =
     let e : suc i ≡ i + 1 = omega arith in
     s ∙ words-step line i bs h b ∙ ap (λ n. words n (drop (suc i) bs)) (sym a) ∙ ap (λ k. words at (drop k bs)) e
 
-pub skipped_lf : (start line i at : ℕ) (bs : List ℕ) → words start bs ≡ words line (drop i bs) → i < length bs → blank (get_or bs i 0) ≡ true → get_or bs i 0 ≡ 10 → at ≡ line + 1 → words start bs ≡ words at (drop (i + 1) bs)
+pub skipped_lf : (start line i at : ℕ) (bs : List ℕ) → words start bs ≡ words line (drop i bs) → i < length bs
+    → blank (get_or bs i 0) ≡ true → get_or bs i 0 ≡ 10 → at ≡ line + 1 → words start bs ≡ words at (drop (i + 1) bs)
 skipped_lf start line i at bs s h b e a = skipped start line i at bs s h b (lf line at (get_or bs i 0) e a)
 
-pub skipped_other : (start line i at : ℕ) (bs : List ℕ) → words start bs ≡ words line (drop i bs) → i < length bs → blank (get_or bs i 0) ≡ true → (get_or bs i 0 ≡ 10 → ⊥) → at ≡ line → words start bs ≡ words at (drop (i + 1) bs)
+pub skipped_other : (start line i at : ℕ) (bs : List ℕ) → words start bs ≡ words line (drop i bs) → i < length bs
+    → blank (get_or bs i 0) ≡ true → (get_or bs i 0 ≡ 10 → ⊥) → at ≡ line → words start bs ≡ words at (drop (i + 1) bs)
 skipped_other start line i at bs s h b e a = skipped start line i at bs s h b (no_lf line at (get_or bs i 0) e a)

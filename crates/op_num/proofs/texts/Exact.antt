@@ -21,7 +21,8 @@ module _ {S R V : Type 0} (step : S → Word → Result S R) (finish : S → ℕ
   unfolding through
   through-more s q w ws h = ap (λ r. after r (λ x. through x ws)) h
 
-  join_by : (r : Result S R) (ws vs : List Word) (q : S) → after r (λ x. through x ws) ≡ Ok q → ((x : S) → through x ws ≡ Ok q → through x (ws ++ vs) ≡ through q vs) → after r (λ x. through x (ws ++ vs)) ≡ through q vs
+  join_by : (r : Result S R) (ws vs : List Word) (q : S) → after r (λ x. through x ws) ≡ Ok q
+      → ((x : S) → through x ws ≡ Ok q → through x (ws ++ vs) ≡ through q vs) → after r (λ x. through x (ws ++ vs)) ≡ through q vs
   join_by (Ok x) ws vs q k rec = rec x k
   join_by (Err e) ws vs q k rec = cc
 
@@ -34,7 +35,9 @@ module _ {S R V : Type 0} (step : S → Word → Result S R) (finish : S → ℕ
   pub through-both : (ws vs : List Word) (s q r : S) → through s ws ≡ Ok q → through q vs ≡ Ok r → through s (ws ++ vs) ≡ Ok r
   through-both ws vs s q r h k = through-join ws vs s q h ∙ k
 
-  run_by : (r : Result S R) (ws vs : List Word) (q : S) (line : ℕ) → after r (λ x. through x ws) ≡ Ok q → ((x : S) → through x ws ≡ Ok q → run step finish x line (ws ++ vs) ≡ run step finish q (last_line line ws) vs) → after r (λ x. run step finish x line (ws ++ vs)) ≡ run step finish q (last_line line ws) vs
+  run_by : (r : Result S R) (ws vs : List Word) (q : S) (line : ℕ) → after r (λ x. through x ws) ≡ Ok q
+      → ((x : S) → through x ws ≡ Ok q → run step finish x line (ws ++ vs) ≡ run step finish q (last_line line ws) vs)
+      → after r (λ x. run step finish x line (ws ++ vs)) ≡ run step finish q (last_line line ws) vs
   run_by (Ok x) ws vs q line k rec = rec x k
   run_by (Err e) ws vs q line k rec = cc
 
@@ -55,8 +58,11 @@ module _ {S R V : Type 0} (step : S → Word → Result S R) (finish : S → ℕ
   after_ok (Ok q) k v h = (q, refl, h)
   after_ok (Err e) k v h = cc
 
-  module _ (start : S) (Stands : List Word → S → Type 0) (begins : Stands [] start) (stands_on : (s q : S) (ws : List Word) (w : Word) → Stands ws s → step s w ≡ Ok q → Stands (ws ++ w ∷ []) q) (leads : (s : S) (ws : List Word) → Stands ws s → through start ws ≡ Ok s) where
-    found_from : (ws seen : List Word) (s : S) (last : ℕ) (v : V) → last ≡ last_line 1 seen → Stands seen s → run step finish s last ws ≡ Ok v → (q : S) × Stands (seen ++ ws) q × (finish q (last_line 1 (seen ++ ws)) ≡ Ok v)
+  module _ (start : S) (Stands : List Word → S → Type 0) (begins : Stands [] start)
+      (stands_on : (s q : S) (ws : List Word) (w : Word) → Stands ws s → step s w ≡ Ok q → Stands (ws ++ w ∷ []) q)
+      (leads : (s : S) (ws : List Word) → Stands ws s → through start ws ≡ Ok s) where
+    found_from : (ws seen : List Word) (s : S) (last : ℕ) (v : V) → last ≡ last_line 1 seen → Stands seen s
+        → run step finish s last ws ≡ Ok v → (q : S) × Stands (seen ++ ws) q × (finish q (last_line 1 (seen ++ ws)) ≡ Ok v)
     unfolding run
     found_from [] seen s last v l k h = subst (λ xs. (q : S) × Stands xs q × (finish q (last_line 1 xs) ≡ Ok v)) (sym (append-nil seen)) (s, k, ap (finish s) (sym l) ∙ h)
     found_from (w ∷ ws) seen s last v l k h =
@@ -68,7 +74,10 @@ module _ {S R V : Type 0} (step : S → Word → Result S R) (finish : S → ℕ
     pub found_run : (ws : List Word) (v : V) → run step finish start 1 ws ≡ Ok v → (q : S) × Stands ws q × (finish q (last_line 1 ws) ≡ Ok v)
     found_run ws v h = found_from ws [] start 1 v refl begins h
 
-    refused_by : (r : Result S R) (s : S) (w : Word) (seen ws : List Word) (e : R) → step s w ≡ r → Stands seen s → after r (λ q. run step finish q w.line ws) ≡ Err e → ((q : S) → step s w ≡ Ok q → run step finish q w.line ws ≡ Err e → RefusesAmong step finish Stands (seen ++ w ∷ ws) e) → RefusesAmong step finish Stands (seen ++ w ∷ ws) e
+    refused_by : (r : Result S R) (s : S) (w : Word) (seen ws : List Word) (e : R) → step s w ≡ r → Stands seen s
+        → after r (λ q. run step finish q w.line ws) ≡ Err e
+        → ((q : S) → step s w ≡ Ok q → run step finish q w.line ws ≡ Err e → RefusesAmong step finish Stands (seen ++ w ∷ ws) e)
+        → RefusesAmong step finish Stands (seen ++ w ∷ ws) e
     refused_by (Ok q) s w seen ws e t k h rec = rec q t h
     refused_by (Err x) s w seen ws e t k h rec = let same : x ≡ e = cc in inl (seen, w, ws, s, refl, k, t ∙ ap Err same)
 
@@ -88,7 +97,8 @@ module _ {S R V : Type 0} (step : S → Word → Result S R) (finish : S → ℕ
     whole_run ws s k = ap (run step finish start 1) (sym (append-nil ws)) ∙ run_through ws [] start s 1 (leads s ws k) ∙ run-end s (last_line 1 ws)
 
     pub refuses_run : (ws : List Word) (e : R) → RefusesAmong step finish Stands ws e → run step finish start 1 ws ≡ Err e
-    refuses_run ws e (inl r) = ap (run step finish start 1) r.4 ∙ run_through r.0 (r.1 ∷ r.2) start r.3 1 (leads r.3 r.0 r.5) ∙ run-more r.3 (last_line 1 r.0) r.1 r.2 ∙ ap (λ x. after x (λ q. run step finish q r.1.line r.2)) r.6
+    refuses_run ws e (inl r) = ap (run step finish start 1) r.4 ∙ run_through r.0 (r.1 ∷ r.2) start r.3 1 (leads r.3 r.0 r.5)
+        ∙ run-more r.3 (last_line 1 r.0) r.1 r.2 ∙ ap (λ x. after x (λ q. run step finish q r.1.line r.2)) r.6
     refuses_run ws e (inr r) = whole_run ws r.0 r.1 ∙ r.2
 
     -- what a reader that answers as the tokens say gives, and what it refuses
@@ -96,7 +106,8 @@ module _ {S R V : Type 0} (step : S → Word → Result S R) (finish : S → ℕ
       pub found : IfOk result (λ m. (q : S) × Stands (words 1 bytes) q × (finish q (last_line 1 (words 1 bytes)) ≡ Ok (view m)))
       found = go result answers
         where
-          go : (r : Result M R) → Answers lost r view (run_from step finish start (uncut bytes)) → IfOk r (λ m. (q : S) × Stands (words 1 bytes) q × (finish q (last_line 1 (words 1 bytes)) ≡ Ok (view m)))
+          go : (r : Result M R) → Answers lost r view (run_from step finish start (uncut bytes))
+              → IfOk r (λ m. (q : S) × Stands (words 1 bytes) q × (finish q (last_line 1 (words 1 bytes)) ≡ Ok (view m)))
           go (Ok m) h = found_run (words 1 bytes) (view m) h
           go (Err e) h = tt
 

@@ -31,7 +31,9 @@ both_none true = refl
 both_none false = refl
 
 -- behind a digit more
-digit_step : (most v n : ℕ) (bs : List ℕ) → n ≤ most → (n + 1 ≤ most → along most v (n + 1) bs ≡ counted most (n + 1 + prefix_len dark bs) (spelled v bs)) → cond (nat_eq n most) None (along most v (n + 1) bs) ≡ counted most (n + suc (prefix_len dark bs)) (spelled v bs)
+digit_step : (most v n : ℕ) (bs : List ℕ) → n ≤ most
+    → (n + 1 ≤ most → along most v (n + 1) bs ≡ counted most (n + 1 + prefix_len dark bs) (spelled v bs))
+    → cond (nat_eq n most) None (along most v (n + 1) bs) ≡ counted most (n + suc (prefix_len dark bs)) (spelled v bs)
 digit_step most v n bs h r = go (nat_eq n most) refl
   where
     go : (t : Bool) → nat_eq n most ≡ t → cond t None (along most v (n + 1) bs) ≡ counted most (n + suc (prefix_len dark bs)) (spelled v bs)
@@ -41,7 +43,11 @@ digit_step most v n bs h r = go (nat_eq n most) refl
         let e : n + 1 + prefix_len dark bs ≡ n + suc (prefix_len dark bs) = omega arith in
         r m ∙ ap (λ k. counted most k (spelled v bs)) e
 
-along_by : (most v n b : ℕ) (bs : List ℕ) (d t : Bool) → is_ascii_digit b ≡ d → blank b ≡ t → n ≤ most → 0 < n → (n + 1 ≤ most → along most (v * 10 + (b - 48)) (n + 1) bs ≡ counted most (n + 1 + prefix_len dark bs) (spelled (v * 10 + (b - 48)) bs)) → cond d (cond (nat_eq n most) None (along most (v * 10 + (b - 48)) (n + 1) bs)) (cond (nat_lt 0 n && t) (Some (v, n)) None) ≡ counted most (n + cond (not t) (1 + prefix_len dark bs) 0) (number_after v (take (cond (not t) (1 + prefix_len dark bs) 0) (b ∷ bs)))
+along_by : (most v n b : ℕ) (bs : List ℕ) (d t : Bool) → is_ascii_digit b ≡ d → blank b ≡ t → n ≤ most → 0 < n
+    → (n + 1 ≤ most → along most (v * 10 + (b - 48)) (n + 1) bs ≡ counted most (n + 1 + prefix_len dark bs)
+    (spelled (v * 10 + (b - 48)) bs)) → cond d (cond (nat_eq n most) None (along most (v * 10 + (b - 48)) (n + 1) bs))
+    (cond (nat_lt 0 n && t) (Some (v, n)) None) ≡ counted most (n + cond (not t) (1 + prefix_len dark bs) 0)
+    (number_after v (take (cond (not t) (1 + prefix_len dark bs) 0) (b ∷ bs)))
 along_by most v n b bs true true d t h s r = let e : blank b ≡ false = grind (arith, nat_tests) in cc
 along_by most v n b bs true false d t h s r = rw (one-add (prefix_len dark bs)) (rw d (digit_step most (v * 10 + (b - 48)) n bs h r))
 along_by most v n b bs false true d t h s r =
@@ -61,11 +67,15 @@ along_is most v n [] h s =
     rw z (rw l (ap (λ k. Some (v, k)) e))
 along_is most v n (b ∷ bs) h s = along_by most v n b bs (is_ascii_digit b) (blank b) refl refl h s (λ m. along_is most (v * 10 + (b - 48)) (n + 1) bs m (omega arith))
 
-front_by : (most b : ℕ) (bs : List ℕ) (d t : Bool) → is_ascii_digit b ≡ d → blank b ≡ t → cond d (cond (nat_eq 0 most) None (along most (0 * 10 + (b - 48)) 1 bs)) None ≡ counted most (cond (not t) (1 + prefix_len dark bs) 0) (number_of (take (cond (not t) (1 + prefix_len dark bs) 0) (b ∷ bs)))
+front_by : (most b : ℕ) (bs : List ℕ) (d t : Bool) → is_ascii_digit b ≡ d → blank b ≡ t
+    → cond d (cond (nat_eq 0 most) None (along most (0 * 10 + (b - 48)) 1 bs)) None ≡ counted most (cond (not t) (1 + prefix_len dark bs) 0)
+    (number_of (take (cond (not t) (1 + prefix_len dark bs) 0) (b ∷ bs)))
 front_by most b bs true true d t = let e : blank b ≡ false = grind (arith, nat_tests) in cc
 front_by most b bs true false d t =
     let e : 0 + suc (prefix_len dark bs) ≡ suc (prefix_len dark bs) = omega arith in
-    rw (one-add (prefix_len dark bs)) (rw d (digit_step most (0 * 10 + (b - 48)) 0 bs (omega arith) (λ m. along_is most (0 * 10 + (b - 48)) 1 bs m (omega arith)) ∙ ap (λ k. counted most k (spelled (0 * 10 + (b - 48)) bs)) e))
+    rw (one-add (prefix_len dark bs))
+        (rw d (digit_step most (0 * 10 + (b - 48)) 0 bs (omega arith) (λ m. along_is most (0 * 10 + (b - 48)) 1 bs m (omega arith))
+        ∙ ap (λ k. counted most k (spelled (0 * 10 + (b - 48)) bs)) e))
 front_by most b bs false true d t = sym (both_none (nat_le 0 most))
 front_by most b bs false false d t = rw (one-add (prefix_len dark bs)) (rw d (sym (both_none (nat_le (suc (prefix_len dark bs)) most))))
 

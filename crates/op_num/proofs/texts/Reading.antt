@@ -49,20 +49,24 @@ module _ {S R V : Type 0} (step : S → Word → Result S R) (finish : S → ℕ
   run_end s u r n h = run-none s u.last u.words n ∙ h
 
   -- behind a token that gives a value
-  pub run_onto : {A : Type 0} (s : S) (u v : Uncut) (w : Word) (x : A) (r : Result A R) (f : A → S) → IsNext u v w → step s w ≡ onto r f → r ≡ Ok x → run_from step finish s u ≡ run_from step finish (f x) v
+  pub run_onto : {A : Type 0} (s : S) (u v : Uncut) (w : Word) (x : A) (r : Result A R) (f : A → S) → IsNext u v w → step s w ≡ onto r f
+      → r ≡ Ok x → run_from step finish s u ≡ run_from step finish (f x) v
   run_onto s u v w x r f n h k = run_token s (f x) u v w n (h ∙ onto_ok r f x k)
 
   module _ (lost : R) where
     -- a refusal that `?` passes on
-    pub passes_on : {X : Type 0} (s : S) (u v : Uncut) (q : X → S) (r : Result X R) (e : R) → IsErrAnd r (λ y. y ≡ e) → ((e ≡ lost) ⊎ (run_from step finish s u ≡ Err e)) → Leads step finish lost s u r q v
+    pub passes_on : {X : Type 0} (s : S) (u v : Uncut) (q : X → S) (r : Result X R) (e : R) → IsErrAnd r (λ y. y ≡ e)
+        → ((e ≡ lost) ⊎ (run_from step finish s u ≡ Err e)) → Leads step finish lost s u r q v
     passes_on s u v q r e h f = let k = err_from_is_err_and r h in rw (k.1, k.2) f
 
     -- want of memory, or a refusal further on
-    pub further : (s q : S) (u v : Uncut) (e : R) → run_from step finish s u ≡ run_from step finish q v → ((e ≡ lost) ⊎ (run_from step finish q v ≡ Err e)) → (e ≡ lost) ⊎ (run_from step finish s u ≡ Err e)
+    pub further : (s q : S) (u v : Uncut) (e : R) → run_from step finish s u ≡ run_from step finish q v
+        → ((e ≡ lost) ⊎ (run_from step finish q v ≡ Err e)) → (e ≡ lost) ⊎ (run_from step finish s u ≡ Err e)
     further s q u v e h (inl m) = inl m
     further s q u v e h (inr k) = inr (h ∙ k)
 
     -- want of memory, or a refusal at a token
-    pub or_refused : {A : Type 0} (s : S) (u v : Uncut) (w : Word) (e : R) (r : Result A R) (f : A → S) → IsNext u v w → step s w ≡ onto r f → ((e ≡ lost) ⊎ (r ≡ Err e)) → (e ≡ lost) ⊎ (run_from step finish s u ≡ Err e)
+    pub or_refused : {A : Type 0} (s : S) (u v : Uncut) (w : Word) (e : R) (r : Result A R) (f : A → S) → IsNext u v w → step s w ≡ onto r f
+        → ((e ≡ lost) ⊎ (r ≡ Err e)) → (e ≡ lost) ⊎ (run_from step finish s u ≡ Err e)
     or_refused s u v w e r f n h (inl m) = inl m
     or_refused s u v w e r f n h (inr k) = inr (run_refused s u v w e n (h ∙ onto_err r f e k))

@@ -22,7 +22,8 @@ on_texts line (t ∷ ts) = ap (λ xs. t ∷ xs) (on_texts line ts)
 pub placed_texts : (line : ℕ) (ls : List (List (List ℕ))) → map text_of (placed line ls) ≡ concat ls
 placed_texts line [] = refl
 placed_texts line ([] ∷ ls) = placed_texts line ls
-placed_texts line ((t ∷ ts) ∷ ls) = map-append text_of (map (on_line line) (t ∷ ts)) (placed (line + 1) ls) ∙ ap (λ xs. xs ++ map text_of (placed (line + 1) ls)) (on_texts line (t ∷ ts)) ∙ ap (λ xs. (t ∷ ts) ++ xs) (placed_texts (line + 1) ls)
+placed_texts line ((t ∷ ts) ∷ ls) = map-append text_of (map (on_line line) (t ∷ ts)) (placed (line + 1) ls)
+    ∙ ap (λ xs. xs ++ map text_of (placed (line + 1) ls)) (on_texts line (t ∷ ts)) ∙ ap (λ xs. (t ∷ ts) ++ xs) (placed_texts (line + 1) ls)
 
 pub concat_append : (cs bs : List (List (List ℕ))) → concat (cs ++ bs) ≡ concat cs ++ concat bs
 concat_append cs bs = flat_map-append (λ l. l) cs bs
@@ -32,7 +33,8 @@ lines_append [] bs a b = b
 lines_append (c ∷ cs) bs a b = (a.0, lines_append cs bs a.1 b)
 
 -- numbers are tokens
-dark_by : (m c : ℕ) (cs : List ℕ) (n : ℕ) (t : Bool) → is_ascii_digit c ≡ t → cond t (number_after (m * 10 + (c - 48)) cs) None ≡ Some n → (number_after (m * 10 + (c - 48)) cs ≡ Some n → list_all dark cs ≡ true) → list_all dark (c ∷ cs) ≡ true
+dark_by : (m c : ℕ) (cs : List ℕ) (n : ℕ) (t : Bool) → is_ascii_digit c ≡ t → cond t (number_after (m * 10 + (c - 48)) cs) None ≡ Some n
+    → (number_after (m * 10 + (c - 48)) cs ≡ Some n → list_all dark cs ≡ true) → list_all dark (c ∷ cs) ≡ true
 dark_by m c cs n true t h r = let b : dark c ≡ true = grind (arith, nat_tests) in list_all_cons dark c cs b (r h)
 dark_by m c cs n false t h r = cc
 

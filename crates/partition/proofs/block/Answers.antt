@@ -22,9 +22,13 @@ loop-set-preserved c =
     rw c.in_ok-push.ensures.items (
       omega (arith, length_push xs y, inv.0),
       list_more xs y n (λ s z. length z ≡ set_size g s) inv.0 inv.1 (moved (λ k z. length z ≡ k) size (set_size g n) v y e q ens.length),
-      list_more xs y n (λ s z. (x : ℕ) → x < set_size g s → InBlock (set_size g s) c.args.ranks (get_or z x 0) x) inv.0 inv.2 (moved (λ k z. (x : ℕ) → x < k → InBlock k c.args.ranks (get_or z x 0) x) size (set_size g n) v y e q ens.block),
-      list_more xs y n (λ s z. (x : ℕ) → x < set_size g s → get_or z x 0 < c.args.ranks) inv.0 inv.3 (moved (λ k z. (x : ℕ) → x < k → get_or z x 0 < c.args.ranks) size (set_size g n) v y e q ens.within),
-      list_more xs y n (λ s z. (x : ℕ) → x < set_size g s → (i : ℕ) → InBlock (set_size g s) c.args.ranks i x → i ≡ get_or z x 0) inv.0 inv.4 (moved (λ k z. (x : ℕ) → x < k → (i : ℕ) → InBlock k c.args.ranks i x → i ≡ get_or z x 0) size (set_size g n) v y e q ens.only),
+      list_more xs y n (λ s z. (x : ℕ) → x < set_size g s → InBlock (set_size g s) c.args.ranks (get_or z x 0) x) inv.0 inv.2
+          (moved (λ k z. (x : ℕ) → x < k → InBlock k c.args.ranks (get_or z x 0) x) size (set_size g n) v y e q ens.block),
+      list_more xs y n (λ s z. (x : ℕ) → x < set_size g s → get_or z x 0 < c.args.ranks) inv.0 inv.3
+          (moved (λ k z. (x : ℕ) → x < k → get_or z x 0 < c.args.ranks) size (set_size g n) v y e q ens.within),
+      list_more xs y n (λ s z. (x : ℕ) → x < set_size g s → (i : ℕ) → InBlock (set_size g s) c.args.ranks i x → i ≡ get_or z x 0) inv.0
+          inv.4 (moved (λ k z. (x : ℕ) → x < k → (i : ℕ) → InBlock k c.args.ranks i x → i ≡ get_or z x 0) size (set_size g n) v y e q
+          ens.only),
     )
 
 pub returns : goal.returns

@@ -7,7 +7,9 @@ use Rattle.partition.specs.Derive.{AreGiven, AreKnown, AreDerived, is_given, giv
 use Rattle.partition.proofs.OneSet.{all_ok}
 use Rattle.partition.proofs.derive.Goals as goal
 
-known_given : (g : MeshValue) (ranks : ℕ) (given : List (Option (Vec ℕ Global))) (sets : List (List ℕ)) (known : List Bool) → sets ≡ map given_list given → known ≡ map (λ (v : Option (Vec ℕ Global)). is_some v) given → AreGiven g ranks given → AreKnown g ranks sets known
+known_given : (g : MeshValue) (ranks : ℕ) (given : List (Option (Vec ℕ Global))) (sets : List (List ℕ)) (known : List Bool)
+    → sets ≡ map given_list given → known ≡ map (λ (v : Option (Vec ℕ Global)). is_some v) given → AreGiven g ranks given
+    → AreKnown g ranks sets known
 unfolding is_given given_in
 known_given g ranks given sets known p q h = rw (p, q) (record {
   each_set = length-map given given_list ∙ h.sets;
@@ -16,12 +18,15 @@ known_given g ranks given sets known p q h = rw (p, q) (record {
   below = λ s x l k lx. h.below s x l k lx;
 })
 
-derived_given : (g : MeshValue) (o : Owners) (given : List (Option (Vec ℕ Global))) (sets : List (List ℕ)) (known : List Bool) → sets ≡ map given_list given → known ≡ map (λ (v : Option (Vec ℕ Global)). is_some v) given → AreDerived g o (λ s. get_or known s false) (λ s. get_or sets s []) → AreDerived g o (λ s. is_given given s) (λ s. given_in given s)
+derived_given : (g : MeshValue) (o : Owners) (given : List (Option (Vec ℕ Global))) (sets : List (List ℕ)) (known : List Bool)
+    → sets ≡ map given_list given → known ≡ map (λ (v : Option (Vec ℕ Global)). is_some v) given
+    → AreDerived g o (λ s. get_or known s false) (λ s. get_or sets s []) → AreDerived g o (λ s. is_given given s) (λ s. given_in given s)
 unfolding is_given given_in
 derived_given g o given sets known p q h = rw (sym p, sym q) h
 
 pub derive_rest-requires-clause-known : goal.derive_rest-requires-clause-known
-derive_rest-requires-clause-known c = known_given c.args.mesh.now c.args.ranks c.args.given.items c.in_ok-sets.sets.items c.in_ok-sets.known.items c.in_ok-sets.ensures.sets c.in_ok-sets.ensures.known c.requires.given
+derive_rest-requires-clause-known c = known_given c.args.mesh.now c.args.ranks c.args.given.items c.in_ok-sets.sets.items
+    c.in_ok-sets.known.items c.in_ok-sets.ensures.sets c.in_ok-sets.ensures.known c.requires.given
 
 pub returns-clause-derived : goal.returns-clause-derived
 returns-clause-derived c =

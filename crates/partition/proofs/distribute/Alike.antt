@@ -24,7 +24,9 @@ module _ (g : MeshValue) (o u : Owners) (same : SameOwners o u) where
 
   reaches_same : reaches g o ≡ reaches g u
   unfolding reaches
-  reaches_same = ap {B = ℕ → ℕ → ℕ → Bool} (λ (f : ℕ → ℕ → ℕ) (s x r : ℕ). any_below (map_count g) (λ m. nat_eq (map_from g m) s && any_below (map_dim g m) (λ i. nat_eq (f (map_to g m) (target g m x i)) r))) owner_same
+  reaches_same = ap {B = ℕ → ℕ → ℕ → Bool}
+      (λ (f : ℕ → ℕ → ℕ) (s x r : ℕ). any_below (map_count g)
+      (λ m. nat_eq (map_from g m) s && any_below (map_dim g m) (λ i. nat_eq (f (map_to g m) (target g m x i)) r))) owner_same
 
   pub owns_same : owns o ≡ owns u
   unfolding owns
@@ -54,7 +56,10 @@ module _ (g : MeshValue) (o u : Owners) (same : SameOwners o u) where
 
   pub core_same : is_core g o ≡ is_core g u
   unfolding is_core
-  core_same = ap {B = ℕ → ℕ → Bool} (λ (f : ℕ → ℕ → ℕ) (s x : ℕ). not (any_below (map_count g) (λ m. nat_eq (map_from g m) s && any_below (map_dim g m) (λ i. not (nat_eq (f (map_to g m) (target g m x i)) (f s x)))))) owner_same
+  core_same = ap {B = ℕ → ℕ → Bool}
+      (λ (f : ℕ → ℕ → ℕ) (s x : ℕ). not
+      (any_below (map_count g) (λ m. nat_eq (map_from g m) s && any_below (map_dim g m)
+      (λ i. not (nat_eq (f (map_to g m) (target g m x i)) (f s x)))))) owner_same
 
   module _ (s : ℕ) (h : SetHalo) (k : IsSetHalo g o s h) where
     below : (r : ℕ) → r < u.ranks → r < o.ranks

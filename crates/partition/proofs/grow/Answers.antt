@@ -9,7 +9,9 @@ use Rattle.partition.proofs.OneSet.{all_ok, one_kept, derived_own}
 use Rattle.partition.proofs.grow.Goals as goal
 
 -- the set that was grown keeps its owners
-grown_kept : (g : MeshValue) (o : Owners) (m t ranks : ℕ) (xs : List ℕ) → t ≡ map_to g m → t < set_count g → IsGrown (set_size g (map_to g m)) ranks (are_neighbours g m) (λ x. get_or xs x 0) → AreDerived g o (λ s. nat_eq s t) (λ s. xs) → IsGrown (set_size g (map_to g m)) ranks (are_neighbours g m) (owner_of o (map_to g m))
+grown_kept : (g : MeshValue) (o : Owners) (m t ranks : ℕ) (xs : List ℕ) → t ≡ map_to g m → t < set_count g
+    → IsGrown (set_size g (map_to g m)) ranks (are_neighbours g m) (λ x. get_or xs x 0) → AreDerived g o (λ s. nat_eq s t) (λ s. xs)
+    → IsGrown (set_size g (map_to g m)) ranks (are_neighbours g m) (owner_of o (map_to g m))
 unfolding owners_in owner_of
 grown_kept g o m t ranks xs e l h d = subst (λ q. IsGrown (set_size g (map_to g m)) ranks (are_neighbours g m) (owner_of o q)) e
     (subst (λ (z : List ℕ). IsGrown (set_size g (map_to g m)) ranks (are_neighbours g m) (λ x. get_or z x 0)) (sym (one_kept g o t xs l d)) h)

@@ -60,13 +60,16 @@ module _ (g : MeshValue) (ranks : ℕ) where
       let o : number_of w.text ≡ Some (set_size g k) = ap number_of e ∙ n in
       step-count g ranks t k w ∙ ap (λ r. onto r (λ m. filled t k m [])) (sizes (number_of w.text) w.line (set_size g k) o)
 
-  rank_on : (t : Table) (k left : ℕ) (rs : List ℕ) (digits : List ℕ) (r : ℕ) → 0 < left → number_of digits ≡ Some r → r < ranks → (w : Word) → w.text ≡ digits → step g ranks (filled t k left rs) w ≡ Ok (filled t k (left - 1) (rs ++ r ∷ []))
+  rank_on : (t : Table) (k left : ℕ) (rs : List ℕ) (digits : List ℕ) (r : ℕ) → 0 < left → number_of digits ≡ Some r → r < ranks → (w : Word)
+      → w.text ≡ digits → step g ranks (filled t k left rs) w ≡ Ok (filled t k (left - 1) (rs ++ r ∷ []))
   rank_on t k left rs digits r more n l w e =
       let o : number_of w.text ≡ Some r = ap number_of e ∙ n in
-      ap (λ q. step g ranks q w) (filled-more t k left rs more) ∙ step-ranks g ranks t k left rs w ∙ ap (λ x. onto x (λ y. filled t k (left - 1) (rs ++ y ∷ []))) (is_ranked ranks (number_of w.text) w.line r o l)
+      ap (λ q. step g ranks q w) (filled-more t k left rs more) ∙ step-ranks g ranks t k left rs w
+          ∙ ap (λ x. onto x (λ y. filled t k (left - 1) (rs ++ y ∷ []))) (is_ranked ranks (number_of w.text) w.line r o l)
 
   -- the ranks of a set
-  goes_ranks : (t : Table) (k : ℕ) (ds : List (List ℕ)) (left rest : ℕ) (rs qs all : List ℕ) → AreRanks ranks ds qs → left ≡ length qs + rest → rs ++ qs ≡ all → Goes (step g ranks) finish (filled t k left rs) ds (filled t k rest all)
+  goes_ranks : (t : Table) (k : ℕ) (ds : List (List ℕ)) (left rest : ℕ) (rs qs all : List ℕ) → AreRanks ranks ds qs
+      → left ≡ length qs + rest → rs ++ qs ≡ all → Goes (step g ranks) finish (filled t k left rs) ds (filled t k rest all)
   goes_ranks t k [] left rest rs qs all a n w =
       let none : length qs ≡ 0 = ap length a in
       let same : left ≡ rest = omega arith in
@@ -82,7 +85,9 @@ module _ (g : MeshValue) (ranks : ℕ) where
       (goes_ranks t k ds (left - 1) rest (rs ++ a.0 ∷ []) a.1 all a.5 fewer whole)
 
   -- the tokens that begin a set, and some of its ranks
-  goes_some : (t : Table) (k rest : ℕ) (name count : List ℕ) (digits : List (List ℕ)) (rs : List ℕ) → IsFree g ranks t name k → number_of count ≡ Some (set_size g k) → AreRanks ranks digits rs → set_size g k ≡ length rs + rest → Goes (step g ranks) finish (Between t) (codes "set" ∷ name ∷ count ∷ digits) (filled t k rest rs)
+  goes_some : (t : Table) (k rest : ℕ) (name count : List ℕ) (digits : List (List ℕ)) (rs : List ℕ) → IsFree g ranks t name k
+      → number_of count ≡ Some (set_size g k) → AreRanks ranks digits rs → set_size g k ≡ length rs + rest
+      → Goes (step g ranks) finish (Between t) (codes "set" ∷ name ∷ count ∷ digits) (filled t k rest rs)
   goes_some t k rest name count digits rs f n a s =
       goes_on (step g ranks) finish (Between t) (SetName t) (filled t k rest rs) (codes "set") (name ∷ count ∷ digits) (set_on t)
       (goes_on (step g ranks) finish (SetName t) (Count t k) (filled t k rest rs) name (count ∷ digits) (name_on t name k f)
@@ -95,10 +100,12 @@ module _ (g : MeshValue) (ranks : ℕ) where
       subst (λ xs. Goes (step g ranks) finish (Between t) xs (Between (slice_set t k (Some rs)))) (sym i.3) (goes_some t k 0 i.0 i.1 i.2 rs (i.4, f) i.5 i.7 size)
 
   goes_sets : (ts : List (List ℕ)) (ss : List Given) (before t : Table) → AreSets g ranks ts ss before t → Goes (step g ranks) finish (Between before) ts (Between t)
-  goes_sets ts [] before t a = subst (λ xs. Goes (step g ranks) finish (Between before) xs (Between t)) (sym a.0) (subst (λ x. Goes (step g ranks) finish (Between before) [] (Between x)) a.1 (goes_nowhere (step g ranks) finish (Between before)))
+  goes_sets ts [] before t a = subst (λ xs. Goes (step g ranks) finish (Between before) xs (Between t)) (sym a.0)
+      (subst (λ x. Goes (step g ranks) finish (Between before) [] (Between x)) a.1 (goes_nowhere (step g ranks) finish (Between before)))
   goes_sets ts (s ∷ ss) before t a =
       subst (λ xs. Goes (step g ranks) finish (Between before) xs (Between t)) (sym a.2)
-      (goes_join (step g ranks) finish (Between before) (Between (slice_set before s.0 (Some s.1))) (Between t) a.0 a.1 (goes_set before a.0 s.0 s.1 a.3 a.4) (goes_sets a.1 ss (slice_set before s.0 (Some s.1)) t a.5))
+      (goes_join (step g ranks) finish (Between before) (Between (slice_set before s.0 (Some s.1))) (Between t) a.0 a.1
+          (goes_set before a.0 s.0 s.1 a.3 a.4) (goes_sets a.1 ss (slice_set before s.0 (Some s.1)) t a.5))
 
   goes_part : (ts : List (List ℕ)) (t : Table) → ArePart g ranks ts t → Goes (step g ranks) finish Magic ts (Between t)
   goes_part ts t p =

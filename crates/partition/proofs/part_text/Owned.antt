@@ -35,7 +35,8 @@ module _ (g : MeshValue) (ranks : ℕ) where
   no_ranks_table : IsTable (no_ranks g)
   no_ranks_table = record {
     sets = length-replicate (set_count g) None;
-    each = λ k rs l e. let n : k < set_count g = subst (λ m. k < m) (length-replicate (set_count g) None) l in let none = get_or-replicate {A = Option (List ℕ)} (set_count g) k None None n in absurd (cc (none, e));
+    each = λ k rs l e. let n : k < set_count g = subst (λ m. k < m) (length-replicate (set_count g) None) l in let none =
+        get_or-replicate {A = Option (List ℕ)} (set_count g) k None None n in absurd (cc (none, e));
   }
 
   set_owned : (ts : List (List ℕ)) (k : ℕ) (rs : List ℕ) → IsSet g ranks ts k rs → IsOwned (set_size g k) ranks rs
@@ -81,7 +82,8 @@ module _ (g : MeshValue) (ranks : ℕ) where
         below = λ k x l m. subst (λ n. get_or (get_or o.sets.items k []) x 0 < n) (sym r) ((owned t size count k l).below x (subst (λ n. x < n) (sym (owned t size count k l).count) m));
       }
     where
-      owned : IsTable (map (λ rs. Some rs) o.sets.items) → length (map (λ rs. Some rs) o.sets.items) ≡ length o.sets.items → length o.sets.items ≡ set_count g → (k : ℕ) → k < set_count g → IsOwned (set_size g k) ranks (get_or o.sets.items k [])
+      owned : IsTable (map (λ rs. Some rs) o.sets.items) → length (map (λ rs. Some rs) o.sets.items) ≡ length o.sets.items
+          → length o.sets.items ≡ set_count g → (k : ℕ) → k < set_count g → IsOwned (set_size g k) ranks (get_or o.sets.items k [])
       owned t size count k l =
           let within : k < length o.sets.items = subst (λ n. k < n) (sym count) l in
           t.each k (get_or o.sets.items k []) (subst (λ n. k < n) (sym size) within) (some_at o.sets.items k within)

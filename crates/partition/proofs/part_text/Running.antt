@@ -19,12 +19,14 @@ last-behind : (last : ℕ) (ws : List Word) (w : Word) → first ws ≡ Some w �
 last-behind last [] w h = cc
 last-behind last (x ∷ ws) w h = let e : x ≡ w = cc in ap (λ y. y.line) e
 
-onto_both : {R : Type 0} (r : Result (List (List ℕ)) R) (sets more : List (List ℕ)) (rs : List ℕ) → more ≡ sets ++ rs ∷ [] → onto (onto r (λ xs. rs ∷ xs)) (λ xs. sets ++ xs) ≡ onto r (λ xs. more ++ xs)
+onto_both : {R : Type 0} (r : Result (List (List ℕ)) R) (sets more : List (List ℕ)) (rs : List ℕ) → more ≡ sets ++ rs ∷ []
+    → onto (onto r (λ xs. rs ∷ xs)) (λ xs. sets ++ xs) ≡ onto r (λ xs. more ++ xs)
 onto_both (Ok xs) sets more rs m = ap Ok (sym (append_assoc sets (rs ∷ []) xs) ∙ ap (λ ys. ys ++ xs) (sym m))
 onto_both (Err e) sets more rs m = refl
 
 -- gathering the ranks of one more set
-pub gather_more : (line : ℕ) (sets more : List (List ℕ)) (t rest : Table) (given : Option (List ℕ)) (rs : List ℕ) → t ≡ given ∷ rest → given ≡ Some rs → more ≡ sets ++ rs ∷ [] → onto (gathered line t) (λ xs. sets ++ xs) ≡ onto (gathered line rest) (λ xs. more ++ xs)
+pub gather_more : (line : ℕ) (sets more : List (List ℕ)) (t rest : Table) (given : Option (List ℕ)) (rs : List ℕ) → t ≡ given ∷ rest
+    → given ≡ Some rs → more ≡ sets ++ rs ∷ [] → onto (gathered line t) (λ xs. sets ++ xs) ≡ onto (gathered line rest) (λ xs. more ++ xs)
 unfolding gathered
 gather_more line sets more t rest given rs e f m = ap (λ x. onto (gathered line x) (λ xs. sets ++ xs)) (e ∙ ap (λ o. o ∷ rest) f) ∙ onto_both (gathered line rest) sets more rs m
 
@@ -90,23 +92,33 @@ module _ (g : MeshValue) (ranks : ℕ) where
   pub set_refused : (t : Table) (u v : Uncut) (w : Word) (e : PartRefusal) → IsNext u v w → Err e ≡ named t (set_of g w.text) w.line → run_from g ranks (SetName t) u ≡ Err e
   set_refused t u v w e n h = run_refused (step g ranks) finish (SetName t) u v w e n (step-set_name t w ∙ onto_err (named t (set_of g w.text) w.line) (Count t) e (sym h))
 
-  pub counted : (t : Table) (k size : ℕ) (u v : Uncut) (w : Word) (n : ℕ) → size ≡ set_size g k → IsNext u v w → Ok n ≡ sized size (number_of w.text) w.line → run_from g ranks (Count t k) u ≡ run_from g ranks (filled t k n []) v
+  pub counted : (t : Table) (k size : ℕ) (u v : Uncut) (w : Word) (n : ℕ) → size ≡ set_size g k → IsNext u v w
+      → Ok n ≡ sized size (number_of w.text) w.line → run_from g ranks (Count t k) u ≡ run_from g ranks (filled t k n []) v
   counted t k size u v w n s x h =
-      run_onto (step g ranks) finish (Count t k) u v w n (sized (set_size g k) (number_of w.text) w.line) (λ m. filled t k m []) x (step-count t k w) (ap (λ m. sized m (number_of w.text) w.line) (sym s) ∙ sym h)
+      run_onto (step g ranks) finish (Count t k) u v w n (sized (set_size g k) (number_of w.text) w.line) (λ m. filled t k m []) x
+          (step-count t k w) (ap (λ m. sized m (number_of w.text) w.line) (sym s) ∙ sym h)
 
-  pub count_refused : (t : Table) (k size : ℕ) (u v : Uncut) (w : Word) (e : PartRefusal) → size ≡ set_size g k → IsNext u v w → Err e ≡ sized size (number_of w.text) w.line → run_from g ranks (Count t k) u ≡ Err e
+  pub count_refused : (t : Table) (k size : ℕ) (u v : Uncut) (w : Word) (e : PartRefusal) → size ≡ set_size g k → IsNext u v w
+      → Err e ≡ sized size (number_of w.text) w.line → run_from g ranks (Count t k) u ≡ Err e
   count_refused t k size u v w e s x h =
-      run_refused (step g ranks) finish (Count t k) u v w e x (step-count t k w ∙ onto_err (sized (set_size g k) (number_of w.text) w.line) (λ m. filled t k m []) e (ap (λ m. sized m (number_of w.text) w.line) (sym s) ∙ sym h))
+      run_refused (step g ranks) finish (Count t k) u v w e x
+          (step-count t k w ∙ onto_err (sized (set_size g k) (number_of w.text) w.line) (λ m. filled t k m []) e
+          (ap (λ m. sized m (number_of w.text) w.line) (sym s) ∙ sym h))
 
-  pub rank_given : (t : Table) (k left : ℕ) (rs : List ℕ) (u v : Uncut) (w : Word) (r : ℕ) → 0 < left → IsNext u v w → Ok r ≡ ranked ranks (number_of w.text) w.line → run_from g ranks (filled t k left rs) u ≡ run_from g ranks (filled t k (left - 1) (rs ++ r ∷ [])) v
+  pub rank_given : (t : Table) (k left : ℕ) (rs : List ℕ) (u v : Uncut) (w : Word) (r : ℕ) → 0 < left → IsNext u v w
+      → Ok r ≡ ranked ranks (number_of w.text) w.line → run_from g ranks (filled t k left rs) u ≡ run_from g ranks
+      (filled t k (left - 1) (rs ++ r ∷ [])) v
   rank_given t k left rs u v w r more n h =
       ap (λ p. run_from g ranks p u) (filled-more t k left rs more)
       ∙ run_onto (step g ranks) finish (Ranks t k left rs) u v w r (ranked ranks (number_of w.text) w.line) (λ x. filled t k (left - 1) (rs ++ x ∷ [])) n (step-ranks t k left rs w) (sym h)
 
-  pub rank_refused : (t : Table) (k left : ℕ) (rs : List ℕ) (u v : Uncut) (w : Word) (e : PartRefusal) → 0 < left → IsNext u v w → Err e ≡ ranked ranks (number_of w.text) w.line → run_from g ranks (filled t k left rs) u ≡ Err e
+  pub rank_refused : (t : Table) (k left : ℕ) (rs : List ℕ) (u v : Uncut) (w : Word) (e : PartRefusal) → 0 < left → IsNext u v w
+      → Err e ≡ ranked ranks (number_of w.text) w.line → run_from g ranks (filled t k left rs) u ≡ Err e
   rank_refused t k left rs u v w e more n h =
       ap (λ p. run_from g ranks p u) (filled-more t k left rs more)
-      ∙ run_refused (step g ranks) finish (Ranks t k left rs) u v w e n (step-ranks t k left rs w ∙ onto_err (ranked ranks (number_of w.text) w.line) (λ x. filled t k (left - 1) (rs ++ x ∷ [])) e (sym h))
+      ∙ run_refused (step g ranks) finish (Ranks t k left rs) u v w e n
+          (step-ranks t k left rs w ∙ onto_err (ranked ranks (number_of w.text) w.line) (λ x. filled t k (left - 1) (rs ++ x ∷ [])) e
+          (sym h))
 
   pub rank_missing : (t : Table) (k left : ℕ) (rs : List ℕ) (u : Uncut) (e : PartRefusal) → 0 < left → first_of u ≡ None → e ≡ WrongCount u.last → run_from g ranks (filled t k left rs) u ≡ Err e
   rank_missing t k left rs u e more n h = ap (λ p. run_from g ranks p u) (filled-more t k left rs more) ∙ run_end (step g ranks) finish (Ranks t k left rs) u (Err e) n (ap Err (sym h))
@@ -123,7 +135,8 @@ module _ (g : MeshValue) (ranks : ℕ) where
   set_begun t u v w n h = run_token (step g ranks) finish (Between t) (SetName t) u v w n (step-between t w ∙ ap (λ o. began t o (number_of w.text) w.line) (sym h))
 
   -- behind `done`
-  pub all_done : (t : Table) (u v : Uncut) (w : Word) → IsNext u v w → Some keyword.Done ≡ keyword_of w.text → run_from g ranks (Between t) u ≡ after (onto (gathered v.last t) End) (λ q. run_from g ranks q v)
+  pub all_done : (t : Table) (u v : Uncut) (w : Word) → IsNext u v w → Some keyword.Done ≡ keyword_of w.text
+      → run_from g ranks (Between t) u ≡ after (onto (gathered v.last t) End) (λ q. run_from g ranks q v)
   all_done t u v w n h = go (gathered w.line t) refl
     where
       at : step g ranks (Between t) w ≡ onto (gathered w.line t) End
@@ -141,5 +154,7 @@ module _ (g : MeshValue) (ranks : ℕ) where
   strays t u v w n h = run_refused (step g ranks) finish (Between t) u v w (stray (number_of w.text) w.line) n (step-between t w ∙ ap (λ o. began t o (number_of w.text) w.line) (sym h))
 
   -- where every set has its ranks
-  pub all_given : (t : Table) (owners : List (List ℕ)) (u v : Uncut) (line : ℕ) → run_from g ranks (Between t) u ≡ after (onto (gathered v.last t) End) (λ q. run_from g ranks q v) → line ≡ v.last → gathered line t ≡ Ok owners → run_from g ranks (Between t) u ≡ run_from g ranks (End owners) v
+  pub all_given : (t : Table) (owners : List (List ℕ)) (u v : Uncut) (line : ℕ)
+      → run_from g ranks (Between t) u ≡ after (onto (gathered v.last t) End) (λ q. run_from g ranks q v) → line ≡ v.last
+      → gathered line t ≡ Ok owners → run_from g ranks (Between t) u ≡ run_from g ranks (End owners) v
   all_given t owners u v line h l e = h ∙ ap (λ r. after (onto r End) (λ q. run_from g ranks q v)) (ap (λ x. gathered x t) (sym l) ∙ e)

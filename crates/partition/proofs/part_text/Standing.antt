@@ -78,17 +78,23 @@ ranked_is ranks (Some m) line r h =
 
 module _ (g : MeshValue) (ranks : ℕ) where
   -- one set more
-  sets_more : (ts front : List (List ℕ)) (ss : List Given) (before t : Table) (k : ℕ) (rs : List ℕ) → AreSets g ranks ts ss before t → IsSet g ranks front k rs → slice_get t k ≡ Some None → AreSets g ranks (ts ++ front) (ss ++ (k, rs) ∷ []) before (slice_set t k (Some rs))
+  sets_more : (ts front : List (List ℕ)) (ss : List Given) (before t : Table) (k : ℕ) (rs : List ℕ) → AreSets g ranks ts ss before t
+      → IsSet g ranks front k rs → slice_get t k ≡ Some None
+      → AreSets g ranks (ts ++ front) (ss ++ (k, rs) ∷ []) before (slice_set t k (Some rs))
   sets_more ts front [] before t k rs a i f =
       (front, [], (ap (λ xs. xs ++ front) a.0 ∙ sym (append-nil front)), i, subst (λ x. slice_get x k ≡ Some None) (sym a.1) f, (refl, ap (λ x. slice_set x k (Some rs)) a.1))
   sets_more ts front (s ∷ ss) before t k rs a i f =
       (a.0, a.1 ++ front, (ap (λ xs. xs ++ front) a.2 ∙ append_assoc a.0 a.1 front), a.3, a.4, sets_more a.1 front ss (slice_set before s.0 (Some s.1)) t k rs a.5 i f)
 
-  part_more : (ts front : List (List ℕ)) (t : Table) (k : ℕ) (rs : List ℕ) → ArePart g ranks ts t → IsSet g ranks front k rs → slice_get t k ≡ Some None → ArePart g ranks (ts ++ front) (slice_set t k (Some rs))
+  part_more : (ts front : List (List ℕ)) (t : Table) (k : ℕ) (rs : List ℕ) → ArePart g ranks ts t → IsSet g ranks front k rs
+      → slice_get t k ≡ Some None → ArePart g ranks (ts ++ front) (slice_set t k (Some rs))
   part_more ts front t k rs p i f = (p.0 ++ front, p.1 ++ (k, rs) ∷ [], ap (λ xs. xs ++ front) p.2, sets_more p.0 front p.1 (no_ranks g) t k rs p.3 i f)
 
   -- a set of which ranks are awaited, or none
-  filled_stands : (t : Table) (k left : ℕ) (rs : List ℕ) (front : List (List ℕ)) (name count : List ℕ) (digits : List (List ℕ)) (ts : List (List ℕ)) → ts ≡ front ++ codes "set" ∷ name ∷ count ∷ digits → ArePart g ranks front t → IsFree g ranks t name k → number_of count ≡ Some (set_size g k) → length rs + left ≡ set_size g k → AreRanks ranks digits rs → Stands g ranks ts (filled t k left rs)
+  filled_stands : (t : Table) (k left : ℕ) (rs : List ℕ) (front : List (List ℕ)) (name count : List ℕ) (digits : List (List ℕ))
+      (ts : List (List ℕ)) → ts ≡ front ++ codes "set" ∷ name ∷ count ∷ digits → ArePart g ranks front t → IsFree g ranks t name k
+      → number_of count ≡ Some (set_size g k) → length rs + left ≡ set_size g k → AreRanks ranks digits rs
+      → Stands g ranks ts (filled t k left rs)
   filled_stands t k left rs front name count digits ts whole part free number size are = go (nat_eq left 0) refl
     where
       go : (b : Bool) → nat_eq left 0 ≡ b → Stands g ranks ts (cond b (Between (slice_set t k (Some rs))) (Ranks t k left rs))
@@ -115,7 +121,9 @@ module _ (g : MeshValue) (ranks : ℕ) where
       let part : ArePart g ranks (ts ++ w.text ∷ []) (no_ranks g) = ([], [], whole, (refl, refl)) in
       subst (Stands g ranks (ts ++ w.text ∷ [])) e part
 
-  behind_word : (t : Table) (o : Option Keyword) (n : Option ℕ) (line : ℕ) (q : State) (ts : List (List ℕ)) (text : List ℕ) → ((k : Keyword) → o ≡ Some k → text ≡ word_of k) → ArePart g ranks ts t → began t o n line ≡ Ok q → Stands g ranks (ts ++ text ∷ []) q
+  behind_word : (t : Table) (o : Option Keyword) (n : Option ℕ) (line : ℕ) (q : State) (ts : List (List ℕ)) (text : List ℕ)
+      → ((k : Keyword) → o ≡ Some k → text ≡ word_of k) → ArePart g ranks ts t → began t o n line ≡ Ok q
+      → Stands g ranks (ts ++ text ∷ []) q
   behind_word t (Some keyword.Set) n line q ts text is s h =
       let e : SetName t ≡ q = cc in
       let stands : Stands g ranks (ts ++ text ∷ []) (SetName t) = (ts, ap (λ x. ts ++ x ∷ []) (is keyword.Set refl), s) in
@@ -126,21 +134,27 @@ module _ (g : MeshValue) (ranks : ℕ) where
       subst (Stands g ranks (ts ++ text ∷ [])) o.2 stands
   behind_word t None n line q ts text is s h = cc
 
-  behind_set_name : (t : Table) (q : State) (ts : List (List ℕ)) (w : Word) → Stands g ranks ts (SetName t) → onto (named t (set_of g w.text) w.line) (Count t) ≡ Ok q → Stands g ranks (ts ++ w.text ∷ []) q
+  behind_set_name : (t : Table) (q : State) (ts : List (List ℕ)) (w : Word) → Stands g ranks ts (SetName t)
+      → onto (named t (set_of g w.text) w.line) (Count t) ≡ Ok q → Stands g ranks (ts ++ w.text ∷ []) q
   behind_set_name t q ts w s h =
       let o = onto_is (named t (set_of g w.text) w.line) (Count t) q h in
       let n = named_is t (set_of g w.text) w.line o.0 o.1 in
       let stands : Stands g ranks (ts ++ w.text ∷ []) (Count t o.0) = (s.0, w.text, with_one ts s.0 (codes "set" ∷ []) w.text w.text s.1 refl, s.2, (set_is g w.text o.0 n.0, n.1)) in
       subst (Stands g ranks (ts ++ w.text ∷ [])) o.2 stands
 
-  behind_count : (t : Table) (k : ℕ) (q : State) (ts : List (List ℕ)) (w : Word) → Stands g ranks ts (Count t k) → onto (sized (set_size g k) (number_of w.text) w.line) (λ n. filled t k n []) ≡ Ok q → Stands g ranks (ts ++ w.text ∷ []) q
+  behind_count : (t : Table) (k : ℕ) (q : State) (ts : List (List ℕ)) (w : Word) → Stands g ranks ts (Count t k)
+      → onto (sized (set_size g k) (number_of w.text) w.line) (λ n. filled t k n []) ≡ Ok q → Stands g ranks (ts ++ w.text ∷ []) q
   behind_count t k q ts w s h =
       let o = onto_is (sized (set_size g k) (number_of w.text) w.line) (λ n. filled t k n []) q h in
       let v = sized_is (set_size g k) (number_of w.text) w.line o.0 o.1 in
       let size : 0 + o.0 ≡ set_size g k = omega (arith, v.1) in
-      subst (Stands g ranks (ts ++ w.text ∷ [])) o.2 (filled_stands t k o.0 [] s.0 s.1 w.text [] (ts ++ w.text ∷ []) (with_one ts s.0 (codes "set" ∷ s.1 ∷ []) w.text w.text s.2 refl) s.3 s.4 v.0 size refl)
+      subst (Stands g ranks (ts ++ w.text ∷ [])) o.2
+          (filled_stands t k o.0 [] s.0 s.1 w.text [] (ts ++ w.text ∷ []) (with_one ts s.0 (codes "set" ∷ s.1 ∷ []) w.text w.text s.2 refl)
+          s.3 s.4 v.0 size refl)
 
-  behind_ranks : (t : Table) (k left : ℕ) (rs : List ℕ) (q : State) (ts : List (List ℕ)) (w : Word) → Stands g ranks ts (Ranks t k left rs) → onto (ranked ranks (number_of w.text) w.line) (λ r. filled t k (left - 1) (rs ++ r ∷ [])) ≡ Ok q → Stands g ranks (ts ++ w.text ∷ []) q
+  behind_ranks : (t : Table) (k left : ℕ) (rs : List ℕ) (q : State) (ts : List (List ℕ)) (w : Word) → Stands g ranks ts (Ranks t k left rs)
+      → onto (ranked ranks (number_of w.text) w.line) (λ r. filled t k (left - 1) (rs ++ r ∷ [])) ≡ Ok q
+      → Stands g ranks (ts ++ w.text ∷ []) q
   behind_ranks t k left rs q ts w s h =
       let o = onto_is (ranked ranks (number_of w.text) w.line) (λ r. filled t k (left - 1) (rs ++ r ∷ [])) q h in
       let v = ranked_is ranks (number_of w.text) w.line o.0 o.1 in

@@ -34,7 +34,8 @@ distinct xs h = IsDistinct-from_AllPairs Decides-eqb xs (λ i j z l lj e.
     let q : i ≡ j = h i j (omega arith) lj (get_or_default xs i 0 z (omega arith) ∙ (e ∙ get_or_default xs j z 0 lj)) in
     absurd (omega arith))
 
-module _ (laws : Given) (g : MeshValue) (o : Owners) (n : Perms) (meshes : List RankMesh) (d : IsDistributed g o n meshes) (s r t : ℕ) (ls : s < o.ranks) (lr : r < o.ranks) (lt : t < set_count g) where
+module _ (laws : Given) (g : MeshValue) (o : Owners) (n : Perms) (meshes : List RankMesh) (d : IsDistributed g o n meshes) (s r t : ℕ)
+    (ls : s < o.ranks) (lr : r < o.ranks) (lt : t < set_count g) where
   abbrev ours : List ℕ
   ours = drop (own laws g o n meshes d r t lr lt) (originals laws g o n meshes d r t lr lt)
 

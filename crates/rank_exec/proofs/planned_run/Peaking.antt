@@ -35,8 +35,10 @@ module _ (laws : Given) (b : BoundValue) (o : Owners) (n : Perms) (meshes : List
 
   step_agrees : (s : Step) → IsStep (step_outline b meshes p) s → (m : ℕ)
       → mail_step (message_cells (layout_of b o meshes p)) s m ≡ mail_step (plan_cells b meshes p) s m
-  step_agrees (Send k s r) h m = ap (λ z. mail_step (λ i x y. z) (Send k s r) m) (sym (cells_are_exported laws b o n meshes p pl s r (subst (λ z. s < z) ranks_are h.2) (subst (λ z. r < z) ranks_are h.3) k))
-  step_agrees (Recv k r s) h m = ap (λ z. mail_step (λ i x y. z) (Recv k r s) m) (sym (cells_are_exported laws b o n meshes p pl s r (subst (λ z. s < z) ranks_are h.2) (subst (λ z. r < z) ranks_are h.3) k))
+  step_agrees (Send k s r) h m = ap (λ z. mail_step (λ i x y. z) (Send k s r) m)
+      (sym (cells_are_exported laws b o n meshes p pl s r (subst (λ z. s < z) ranks_are h.2) (subst (λ z. r < z) ranks_are h.3) k))
+  step_agrees (Recv k r s) h m = ap (λ z. mail_step (λ i x y. z) (Recv k r s) m)
+      (sym (cells_are_exported laws b o n meshes p pl s r (subst (λ z. s < z) ranks_are h.2) (subst (λ z. r < z) ranks_are h.3) k))
   step_agrees (Begin k r x) h m = refl
   step_agrees (End k r x) h m = refl
   step_agrees (Join k) h m = refl

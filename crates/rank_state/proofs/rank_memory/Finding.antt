@@ -31,7 +31,10 @@ first_found s r [] cs h = absurd (omega arith)
 first_found s r (l ∷ ls) cs h =
     first_cons s r l ls cs ∙ by (letter_of s r l) (first_found s r ls cs) h
   where
-    by : (b : Bool) → (index_of s r ls < length ls → first_post s r (posts_in ls cs) ≡ Some (post_of (found s r ls) cs)) → cond b 0 (suc (index_of s r ls)) < suc (length ls) → cond b (Some (post_of l cs)) (first_post s r (posts_in ls cs)) ≡ Some (post_of (get_or (l ∷ ls) (cond b 0 (suc (index_of s r ls))) no_letter) cs)
+    by : (b : Bool) → (index_of s r ls < length ls → first_post s r (posts_in ls cs) ≡ Some (post_of (found s r ls) cs))
+        → cond b 0 (suc (index_of s r ls)) < suc (length ls)
+        → cond b (Some (post_of l cs)) (first_post s r (posts_in ls cs)) ≡ Some
+        (post_of (get_or (l ∷ ls) (cond b 0 (suc (index_of s r ls))) no_letter) cs)
     by true ih h = refl
     by false ih h = ih (omega arith)
 

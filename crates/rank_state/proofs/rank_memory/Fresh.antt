@@ -37,7 +37,8 @@ pub all_shut : (stride : ℕ) (slots : List Slot) (staging : List ℤ) (shape : 
 all_shut stride slots staging [] = refl
 all_shut stride slots staging (n ∷ shape) = ap₂ ◌∷◌ (row_shut (pane_of stride slots staging) n) (all_shut stride slots staging shape)
 
-pub tied_fresh : (stride peak : ℕ) (shape : List ℕ) (staging : List ℤ) (free : List ℕ) → length staging ≡ peak * stride → length free ≡ peak → ((i : ℕ) → i < peak → get_or free i 0 ≡ i) → Tied stride (none_open shape) (replicate peak no_slot) staging free
+pub tied_fresh : (stride peak : ℕ) (shape : List ℕ) (staging : List ℤ) (free : List ℕ) → length staging ≡ peak * stride → length free ≡ peak
+    → ((i : ℕ) → i < peak → get_or free i 0 ≡ i) → Tied stride (none_open shape) (replicate peak no_slot) staging free
 tied_fresh stride peak shape staging free ls lf each =
     let n : length (replicate peak no_slot) ≡ peak = length-replicate peak no_slot in
     record {

@@ -110,7 +110,8 @@ put_queue queues after ls c k o h here others =
     let n : length (set queues k o) ≡ length queues = length-set queues k o in
     subst (λ m. (i : ℕ) → i < m → IsQueue m ls after c i (get_or (set queues k o) i None)) (sym n)
     (λ i lt. ⊎_elim
-    (λ (e : i ≡ k). subst (λ j. IsQueue (length queues) ls after c j (get_or (set queues k o) j None)) (sym e) (subst (IsQueue (length queues) ls after c k) (sym (get_or-set_same queues k o None h)) here))
+    (λ (e : i ≡ k). subst (λ j. IsQueue (length queues) ls after c j (get_or (set queues k o) j None)) (sym e)
+        (subst (IsQueue (length queues) ls after c k) (sym (get_or-set_same queues k o None h)) here))
     (λ (d : i ≢ k). subst (IsQueue (length queues) ls after c i) (sym (get_or-set_other queues k i o None d)) (others i lt d))
     (cases_eq i k))
 
@@ -122,7 +123,8 @@ linked_first queues next after ls c w lt nothing f l room e q =
     let n = length queues in
     let k = queue_at (length queues) ls c in
     let alone : get_or after c None ≡ None = ap (λ ps. get_or ps c None) e ∙ get_or-set_same next c None None room in
-    let empty : IsQueue (length queues) ls next c (queue_at (length queues) ls c) None = subst (IsQueue (length queues) ls next c (queue_at (length queues) ls c)) nothing (q (queue_at (length queues) ls c) lt) in
+    let empty : IsQueue (length queues) ls next c (queue_at (length queues) ls c) None =
+        subst (IsQueue (length queues) ls next c (queue_at (length queues) ls c)) nothing (q (queue_at (length queues) ls c) lt) in
     put_queue queues after ls (suc c) (queue_at (length queues) ls c) (Some w) lt
     (first_link (length queues) c (queue_at (length queues) ls c) ls next after w refl f l alone empty)
     (λ i h d. other_queue (length queues) c i ls next after (λ t. d (sym t))
@@ -133,7 +135,8 @@ pub linked_more : (queues : List (Option Queue)) (next after : List (Option ℕ)
     → get_or queues (queue_at (length queues) ls c) None ≡ Some v → w.first ≡ v.first → w.last ≡ c → c < length next → after ≡ set (set next c None) v.last (Some c)
     → Queued queues next ls c → Queued (set queues (queue_at (length queues) ls c) (Some w)) after ls (suc c)
 linked_more queues next after ls c v w lt there f l room e q =
-    let old : Links (length queues) ls next c (queue_at (length queues) ls c) v = subst (IsQueue (length queues) ls next c (queue_at (length queues) ls c)) there (q (queue_at (length queues) ls c) lt) in
+    let old : Links (length queues) ls next c (queue_at (length queues) ls c) v =
+        subst (IsQueue (length queues) ls next c (queue_at (length queues) ls c)) there (q (queue_at (length queues) ls c) lt) in
     let before = old.last_in in
     let ne : c ≢ v.last = omega arith in
     let wide : v.last < length (set next c None) = (let s = length-set next c None in omega arith) in
@@ -156,11 +159,15 @@ Ahead n ls i k (Some w) = (i ≤ w.first) × (w.first < length ls) × (queue_at 
 pub read_alike : (n i c : ℕ) (ls : List Letter) (next : List (Option ℕ)) → i < length ls → Alike n ls (set ls i (read_of (get_or ls i no_letter))) next next c
 read_alike n i c ls next h = record {
   queues = λ m b. ⊎_elim
-      (λ (e : m ≡ i). ap (queue_at n (set ls i (read_of (get_or ls i no_letter)))) e ∙ ap (λ (l : Letter). l.to % n) (get_or-set_same ls i (read_of (get_or ls i no_letter)) no_letter h) ∙ ap (queue_at n ls) (sym e))
+      (λ (e : m ≡ i). ap (queue_at n (set ls i (read_of (get_or ls i no_letter)))) e
+          ∙ ap (λ (l : Letter). l.to % n) (get_or-set_same ls i (read_of (get_or ls i no_letter)) no_letter h) ∙ ap (queue_at n ls) (sym e))
       (λ (d : m ≢ i). ap (λ (l : Letter). l.to % n) (get_or-set_other ls i m (read_of (get_or ls i no_letter)) no_letter d))
       (cases_eq m i);
   unread = λ m b u. ⊎_elim
-      (λ (e : m ≡ i). let r : (get_or (set ls i (read_of (get_or ls i no_letter))) m no_letter).is_read ≡ true = ap (λ j. (get_or (set ls i (read_of (get_or ls i no_letter))) j no_letter).is_read) e ∙ ap (λ (l : Letter). l.is_read) (get_or-set_same ls i (read_of (get_or ls i no_letter)) no_letter h) in absurd (true≢false (sym r ∙ u)))
+      (λ (e : m ≡ i). let r : (get_or (set ls i (read_of (get_or ls i no_letter))) m no_letter).is_read ≡ true =
+          ap (λ j. (get_or (set ls i (read_of (get_or ls i no_letter))) j no_letter).is_read) e
+          ∙ ap (λ (l : Letter). l.is_read) (get_or-set_same ls i (read_of (get_or ls i no_letter)) no_letter h) in
+          absurd (true≢false (sym r ∙ u)))
       (λ (d : m ≢ i). ap (λ (l : Letter). l.is_read) (sym (get_or-set_other ls i m (read_of (get_or ls i no_letter)) no_letter d)) ∙ u)
       (cases_eq m i);
   steps = λ m b. refl;
@@ -175,6 +182,7 @@ more_alike n ls more next ends h = record {
 }
 
 -- the same lists by other names
-pub same_queues : (queues tables : List (Option Queue)) (next after : List (Option ℕ)) (ls ks : List Letter) (c d : ℕ) → queues ≡ tables → next ≡ after → ls ≡ ks → c ≡ d → Queued queues next ls c → Queued tables after ks d
+pub same_queues : (queues tables : List (Option Queue)) (next after : List (Option ℕ)) (ls ks : List Letter) (c d : ℕ) → queues ≡ tables
+    → next ≡ after → ls ≡ ks → c ≡ d → Queued queues next ls c → Queued tables after ks d
 same_queues queues tables next after ls ks c d e f g h q =
     subst (λ n. Queued tables after ks n) h (subst (λ l. Queued tables after l c) g (subst (λ p. Queued tables p ls c) f (subst (λ t. Queued t next ls c) e q)))

@@ -22,7 +22,8 @@ entry_same table r x e hr hx =
     ap (λ row. get_or row x None) (get_or-set_same table r (set (get_or table r []) x e) [] hr) ∙ get_or-set_same (get_or table r []) x e None hx
 
 -- an entry of the changed table is the new one, or an old one elsewhere
-pub entry_cases : (table : Table) (r x : ℕ) (e : Option ℕ) (r' x' : ℕ) → r < length table → ((r' ≡ r) × (x' ≡ x)) ⊎ ((((r' ≡ r) × (x' ≡ x)) → ⊥) × (entry (with_entry r x e table) r' x' ≡ entry table r' x'))
+pub entry_cases : (table : Table) (r x : ℕ) (e : Option ℕ) (r' x' : ℕ) → r < length table → ((r' ≡ r) × (x' ≡ x))
+    ⊎ ((((r' ≡ r) × (x' ≡ x)) → ⊥) × (entry (with_entry r x e table) r' x' ≡ entry table r' x'))
 entry_cases table r x e r' x' hr =
     ⊎_elim
     (λ (p : r' ≡ r). ⊎_elim
@@ -103,7 +104,8 @@ pub shut_panes : (stride : ℕ) (table : Table) (slots : List Slot) (staging : L
 shut_panes stride table slots staging free r x s v tied hr hx e =
     let other : (t : ℕ) → t ≢ s → pane_of stride (set slots s v) staging t ≡ pane_of stride slots staging t =
     λ t ne. ap (λ (w : Slot). held_pane w.held w.item (cells_at (t * stride) stride staging)) (get_or-set_other slots s t v no_slot ne) in
-    let rest : (r' x' : ℕ) → of_entry (pane_of stride (set slots s v) staging) (entry (with_entry r x None table) r' x') ≡ of_entry (pane_of stride slots staging) (entry (with_entry r x None table) r' x') =
+    let rest : (r' x' : ℕ) → of_entry (pane_of stride (set slots s v) staging) (entry (with_entry r x None table) r' x') ≡ of_entry
+        (pane_of stride slots staging) (entry (with_entry r x None table) r' x') =
     λ r' x'. same_entry (pane_of stride slots staging) (pane_of stride (set slots s v) staging) (entry (with_entry r x None table) r' x')
     (λ t e'. other t (left_entry stride table slots staging free r x s tied hr hx e r' x' t e')) in
     map_table (of_entry (pane_of stride (set slots s v) staging)) (of_entry (pane_of stride slots staging)) (with_entry r x None table) rest

@@ -68,7 +68,8 @@ pub record Place (queues : List (Option Queue)) (ls : List Letter) (s r at : ℕ
 same_queue : (v w : Queue) → Some v ≡ Some w → v ≡ w
 same_queue v w e = cc
 
-queue_is : (queues : List (Option Queue)) (next : List (Option ℕ)) (ls : List Letter) (r : ℕ) (o : Option Queue) → 0 < length queues → Queued queues next ls (length ls) → get_or queues (r % length queues) None ≡ o
+queue_is : (queues : List (Option Queue)) (next : List (Option ℕ)) (ls : List Letter) (r : ℕ) (o : Option Queue) → 0 < length queues
+    → Queued queues next ls (length ls) → get_or queues (r % length queues) None ≡ o
     → IsQueue (length queues) ls next (length ls) (r % length queues) o
 queue_is queues next ls r o some q e = subst (IsQueue (length queues) ls next (length ls) (r % length queues)) e (q (r % length queues) (mod-lt r some))
 
@@ -79,7 +80,8 @@ pub some_place : (queues : List (Option Queue)) (next : List (Option ℕ)) (ls :
     → get_or queues (r % length queues) None ≡ None → ⊥
 some_place queues next ls s r some q h e = queue_is queues next ls r None some q e (index_of s r ls) h (waits (length queues) s r ls h)
 
-pub place_first : (queues : List (Option Queue)) (next : List (Option ℕ)) (ls : List Letter) (s r : ℕ) (all : Queue) → 0 < length queues → Queued queues next ls (length ls) → index_of s r ls < length ls
+pub place_first : (queues : List (Option Queue)) (next : List (Option ℕ)) (ls : List Letter) (s r : ℕ) (all : Queue) → 0 < length queues
+    → Queued queues next ls (length ls) → index_of s r ls < length ls
     → get_or queues (r % length queues) None ≡ Some all → Place queues ls s r all.first
 place_first queues next ls s r all some q h e =
     let links : Links (length queues) ls next (length ls) (r % length queues) all = queue_is queues next ls r (Some all) some q e in
@@ -96,7 +98,8 @@ later_than s r at ls h le f = ⊎_elim
     (λ (d : at ≢ index_of s r ls). omega arith)
     (cases_eq at (index_of s r ls))
 
-pub place_next : (queues : List (Option Queue)) (next : List (Option ℕ)) (ls : List Letter) (s r at j : ℕ) (all : Queue) → 0 < length queues → Queued queues next ls (length ls) → index_of s r ls < length ls
+pub place_next : (queues : List (Option Queue)) (next : List (Option ℕ)) (ls : List Letter) (s r at j : ℕ) (all : Queue) → 0 < length queues
+    → Queued queues next ls (length ls) → index_of s r ls < length ls
     → get_or queues (r % length queues) None ≡ Some all → Place queues ls s r at → letter_of s r (get_or ls at no_letter) ≡ false → get_or next at None ≡ Some j
     → (at < j) × Place queues ls s r j
 place_next queues next ls s r at j all some q h e p f g =
@@ -113,7 +116,8 @@ place_next queues next ls s r at j all some q h e p f g =
       },
     )
 
-pub goes_on : (queues : List (Option Queue)) (next : List (Option ℕ)) (ls : List Letter) (s r at : ℕ) (all : Queue) → 0 < length queues → Queued queues next ls (length ls) → index_of s r ls < length ls
+pub goes_on : (queues : List (Option Queue)) (next : List (Option ℕ)) (ls : List Letter) (s r at : ℕ) (all : Queue) → 0 < length queues
+    → Queued queues next ls (length ls) → index_of s r ls < length ls
     → get_or queues (r % length queues) None ≡ Some all → Place queues ls s r at → letter_of s r (get_or ls at no_letter) ≡ false → get_or next at None ≡ None → ⊥
 goes_on queues next ls s r at all some q h e p f g =
     let links : Links (length queues) ls next (length ls) (r % length queues) all = queue_is queues next ls r (Some all) some q e in

@@ -11,7 +11,8 @@ use Rattle.renumber.proofs.breadth_order.Having.{haver_at, haver_has}
 use Rattle.lemmas.proofs.Truth.{iff_eq}
 
 -- one more mark
-pub count_set : (last : List ℕ) (t x n : ℕ) → t < n → n ≤ length last → get_or last t 0 ≢ x → count_below n (λ y. nat_eq (get_or (set last t x) y 0) x) ≡ count_below n (λ y. nat_eq (get_or last y 0) x) + 1
+pub count_set : (last : List ℕ) (t x n : ℕ) → t < n → n ≤ length last → get_or last t 0 ≢ x
+    → count_below n (λ y. nat_eq (get_or (set last t x) y 0) x) ≡ count_below n (λ y. nat_eq (get_or last y 0) x) + 1
 count_set last t x zero l len new = absurd (omega arith)
 count_set last t x (suc n) l len new =
     let p : ℕ → Bool = λ y. nat_eq (get_or last y 0) x in
@@ -66,7 +67,9 @@ abbrev pub Marks : List ℕ → List ℕ → (ℕ → Bool) → ℕ → ℕ → 
 Marks last initial p x y = nat_eq (get_or last y 0) x ≡ (nat_eq (get_or initial y 0) x || (p y && not (nat_eq x y)))
 
 -- a target that wasn't marked is
-pub marks_set : (last initial : List ℕ) (t u x n y : ℕ) (p : ℕ → ℕ) → t < length last → t ≡ u → u ≡ p n → t ≢ x → Marks last initial (λ y. any_below n (λ i. nat_eq (p i) y)) x y → Marks (set last t x) initial (λ y. any_below (n + 1) (λ i. nat_eq (p i) y)) x y
+pub marks_set : (last initial : List ℕ) (t u x n y : ℕ) (p : ℕ → ℕ) → t < length last → t ≡ u → u ≡ p n → t ≢ x
+    → Marks last initial (λ y. any_below n (λ i. nat_eq (p i) y)) x y
+    → Marks (set last t x) initial (λ y. any_below (n + 1) (λ i. nat_eq (p i) y)) x y
 marks_set last initial t u x n y p l q r d h =
     let a : Bool = nat_eq (get_or initial y 0) x in
     let b : Bool = any_below n (λ i. nat_eq (p i) y) in
@@ -84,7 +87,9 @@ marks_set last initial t u x n y p l q r d h =
     (cases_eq y t)
 
 -- a target that is the number's element, or is marked, changes nothing
-pub marks_kept : (last initial : List ℕ) (t u x n y : ℕ) (p : ℕ → ℕ) → t ≡ u → u ≡ p n → ((t ≡ x → ⊥) → get_or last t 0 ≡ x) → Marks last initial (λ y. any_below n (λ i. nat_eq (p i) y)) x y → Marks last initial (λ y. any_below (n + 1) (λ i. nat_eq (p i) y)) x y
+pub marks_kept : (last initial : List ℕ) (t u x n y : ℕ) (p : ℕ → ℕ) → t ≡ u → u ≡ p n → ((t ≡ x → ⊥) → get_or last t 0 ≡ x)
+    → Marks last initial (λ y. any_below n (λ i. nat_eq (p i) y)) x y
+    → Marks last initial (λ y. any_below (n + 1) (λ i. nat_eq (p i) y)) x y
 marks_kept last initial t u x n y p q r d h =
     let a : Bool = nat_eq (get_or initial y 0) x in
     let b : Bool = any_below n (λ i. nat_eq (p i) y) in
@@ -105,23 +110,28 @@ marks_kept last initial t u x n y p q r d h =
     (cases_eq y t)
 
 -- other numbers mark nothing more
-pub others_set : (last initial : List ℕ) (t x : ℕ) → t < length last → ((y z : ℕ) → z ≢ x → get_or last y 0 ≡ z → get_or initial y 0 ≡ z) → (y z : ℕ) → z ≢ x → get_or (set last t x) y 0 ≡ z → get_or initial y 0 ≡ z
+pub others_set : (last initial : List ℕ) (t x : ℕ) → t < length last → ((y z : ℕ) → z ≢ x → get_or last y 0 ≡ z → get_or initial y 0 ≡ z)
+    → (y z : ℕ) → z ≢ x → get_or (set last t x) y 0 ≡ z → get_or initial y 0 ≡ z
 others_set last initial t x l h y z n e = ⊎_elim
     (λ (s : y ≡ t). absurd (n (sym e ∙ (ap (λ q. get_or (set last t x) q 0) s ∙ get_or-set_same last t x 0 l))))
     (λ (s : y ≡ t → ⊥). h y z n (sym (get_or-set_other last t y x 0 s) ∙ e))
     (cases_eq y t)
 
 -- two elements are neighbours where one of those that have the first has the second
-pub near_by : (g : MeshValue) (m x y : ℕ) (having : List ℕ) → having ≡ havers g m (set_size g (map_from g m)) x → (any_below (length having) (λ k. has_target g m (get_or having k 0) y) && not (nat_eq x y)) ≡ are_neighbours g m x y
+pub near_by : (g : MeshValue) (m x y : ℕ) (having : List ℕ) → having ≡ havers g m (set_size g (map_from g m)) x
+    → (any_below (length having) (λ k. has_target g m (get_or having k 0) y) && not (nat_eq x y)) ≡ are_neighbours g m x y
 unfolding are_neighbours
-near_by g m x y having e = ap (λ z. z && not (nat_eq x y)) (iff_eq (any_below (length having) (λ k. has_target g m (get_or having k 0) y)) (any_below (set_size g (map_from g m)) (λ e. has_target g m e y && has_target g m e x))
+near_by g m x y having e = ap (λ z. z && not (nat_eq x y))
+    (iff_eq (any_below (length having) (λ k. has_target g m (get_or having k 0) y))
+    (any_below (set_size g (map_from g m)) (λ e. has_target g m e y && has_target g m e x))
     (λ t.
     let w = any_witness (length having) (λ k. has_target g m (get_or having k 0) y) t in
     let l : w.0 < length (havers g m (set_size g (map_from g m)) x) = subst (λ (z : List ℕ). w.0 < length z) e w.1 in
     let h = haver_at g m (set_size g (map_from g m)) x w.0 l in
     let r : get_or having w.0 0 ≡ get_or (havers g m (set_size g (map_from g m)) x) w.0 0 = ap (λ (z : List ℕ). get_or z w.0 0) e in
     any_from (set_size g (map_from g m)) (λ e. has_target g m e y && has_target g m e x) (get_or (havers g m (set_size g (map_from g m)) x) w.0 0) h.0
-    (and_from (has_target g m (get_or (havers g m (set_size g (map_from g m)) x) w.0 0) y) (has_target g m (get_or (havers g m (set_size g (map_from g m)) x) w.0 0) x) (subst (λ z. has_target g m z y ≡ true) r w.2) h.1))
+    (and_from (has_target g m (get_or (havers g m (set_size g (map_from g m)) x) w.0 0) y)
+        (has_target g m (get_or (havers g m (set_size g (map_from g m)) x) w.0 0) x) (subst (λ z. has_target g m z y ≡ true) r w.2) h.1))
     (λ t.
     let w = any_witness (set_size g (map_from g m)) (λ e. has_target g m e y && has_target g m e x) t in
     let b = and_parts (has_target g m w.0 y) (has_target g m w.0 x) w.2 in
@@ -130,7 +140,9 @@ near_by g m x y having e = ap (λ z. z && not (nat_eq x y)) (iff_eq (any_below (
     let r : get_or having k.0 0 ≡ w.0 = ap (λ (z : List ℕ). get_or z k.0 0) e ∙ (get_or_default (havers g m (set_size g (map_from g m)) x) k.0 0 w.0 k.1 ∙ k.2) in
     any_from (length having) (λ k. has_target g m (get_or having k 0) y) k.0 l (subst (λ z. has_target g m z y ≡ true) (sym r) b.0)))
 
-pub degree_is : (g : MeshValue) (m x n : ℕ) (having : List ℕ) → having ≡ havers g m (set_size g (map_from g m)) x → n ≡ set_size g (map_to g m) → count_below n (λ y. any_below (length having) (λ k. has_target g m (get_or having k 0) y) && not (nat_eq x y)) ≡ degree g m x
+pub degree_is : (g : MeshValue) (m x n : ℕ) (having : List ℕ) → having ≡ havers g m (set_size g (map_from g m)) x
+    → n ≡ set_size g (map_to g m) → count_below n
+    (λ y. any_below (length having) (λ k. has_target g m (get_or having k 0) y) && not (nat_eq x y)) ≡ degree g m x
 unfolding degree
 degree_is g m x n having e q =
     count_agree n (λ y. any_below (length having) (λ k. has_target g m (get_or having k 0) y) && not (nat_eq x y)) (are_neighbours g m x) (λ y l. near_by g m x y having e)

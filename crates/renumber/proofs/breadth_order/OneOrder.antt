@@ -9,7 +9,8 @@ use Rattle.renumber.specs.Degrees.{degree, degree_order}
 use Rattle.renumber.specs.OneOrder.{AreApart}
 
 module _ (Next : ℕ → List ℕ → ℕ → Type 0) (one : (k : ℕ) (xs : List ℕ) (x y : ℕ) → Next k xs x → Next k xs y → x ≡ y) where
-  same_fronts : (a b : List ℕ) → length a ≡ length b → ((k : ℕ) → k < length a → Next k (take k a) (get_or a k 0)) → ((k : ℕ) → k < length b → Next k (take k b) (get_or b k 0)) → (k : ℕ) → k ≤ length a → take k a ≡ take k b
+  same_fronts : (a b : List ℕ) → length a ≡ length b → ((k : ℕ) → k < length a → Next k (take k a) (get_or a k 0))
+      → ((k : ℕ) → k < length b → Next k (take k b) (get_or b k 0)) → (k : ℕ) → k ≤ length a → take k a ≡ take k b
   same_fronts a b e f g zero l = refl
   same_fronts a b e f g (suc k) l =
       let front : take k a ≡ take k b = same_fronts a b e f g k (omega arith) in

@@ -57,7 +57,9 @@ module _ (n : ℕ) (near : ℕ → ℕ → Bool) where
       (cases_eq k (length order))
 
   -- a start that isn't marked comes next where all neighbours of those taken are marked
-  pub next_start : (key : ℕ → ℕ) (order : List ℕ) (seen : List Bool) (starts : List ℕ) (i : ℕ) → IsWalk n near order seen (length order) → i < length starts → get_or starts i 0 < n → get_or seen (get_or starts i 0) false ≡ false → ((y : ℕ) → y < n → Contains starts y) → ((j : ℕ) → j < i → get_or seen (get_or starts j 0) false ≡ true) → Rises key starts → IsNext n near key order (get_or starts i 0)
+  pub next_start : (key : ℕ → ℕ) (order : List ℕ) (seen : List Bool) (starts : List ℕ) (i : ℕ) → IsWalk n near order seen (length order)
+      → i < length starts → get_or starts i 0 < n → get_or seen (get_or starts i 0) false ≡ false → ((y : ℕ) → y < n → Contains starts y)
+      → ((j : ℕ) → j < i → get_or seen (get_or starts j 0) false ≡ true) → Rises key starts → IsNext n near key order (get_or starts i 0)
   next_start key order seen starts i w li lz f all done rises = record {
     within = lz;
     new = untaken order seen (length order) (get_or starts i 0) w f;
@@ -67,7 +69,8 @@ module _ (n : ℕ) (near : ℕ → ℕ → Bool) where
         let e : get_or starts c.0 0 ≡ y = get_or_default starts c.0 0 y c.1 ∙ c.2 in
         let le : i ≤ c.0 = ⊎_elim (λ (m : c.0 < i). absurd (not_both (get_or seen y false) (subst (λ q. get_or seen q false ≡ true) e (done c.0 m)) g)) (λ (m : i ≤ c.0). m) (cases_lt c.0 i) in
         inr (
-          earliest_none order (get_or starts i 0) (far order seen (length order) (get_or starts i 0) w (omega arith) lz f) ∙ sym (earliest_none order y (far order seen (length order) y w (omega arith) ly g)),
+          earliest_none order (get_or starts i 0) (far order seen (length order) (get_or starts i 0) w (omega arith) lz f)
+              ∙ sym (earliest_none order y (far order seen (length order) y w (omega arith) ly g)),
           subst (λ q. key (get_or starts i 0) ≤ key q) e (rises i c.0 le c.1),
         ));
   }
@@ -79,7 +82,8 @@ module _ (n : ℕ) (near : ℕ → ℕ → Bool) where
       (λ (e : y ≡ z → ⊥). get_or-set_other seen z y true false e ∙ t)
       (cases_eq y z)
 
-  pub walk_push : (order : List ℕ) (seen : List Bool) (h z : ℕ) → IsWalk n near order seen h → h ≤ length order → z < n → get_or seen z false ≡ false → IsWalk n near (order ++ z ∷ []) (set seen z true) h
+  pub walk_push : (order : List ℕ) (seen : List Bool) (h z : ℕ) → IsWalk n near order seen h → h ≤ length order → z < n
+      → get_or seen z false ≡ false → IsWalk n near (order ++ z ∷ []) (set seen z true) h
   walk_push order seen h z w lh lz f =
       let lseen : z < length seen = rw w.size lz in
       let p = length_push order z in
@@ -87,7 +91,8 @@ module _ (n : ℕ) (near : ℕ → ℕ → Bool) where
         size = length-set seen z true ∙ w.size;
         count = (
             let v : cond {A = ℕ} (not (get_or seen z false)) 1 0 ≡ 1 = ap (λ b. cond {A = ℕ} (not b) 1 0) f in
-            let s : count_by (λ b. not b) (set seen z true) + cond {A = ℕ} (not (get_or seen z false)) 1 0 ≡ count_by (λ b. not b) seen + 0 = sum_by-set (λ b. cond {A = ℕ} (not b) 1 0) seen z true false lseen in
+            let s : count_by (λ b. not b) (set seen z true) + cond {A = ℕ} (not (get_or seen z false)) 1 0 ≡ count_by (λ b. not b) seen +
+                0 = sum_by-set (λ b. cond {A = ℕ} (not b) 1 0) seen z true false lseen in
             omega (arith, w.count));
         within = λ k l. ⊎_elim
             (λ (e : k ≡ length order). rw (get_or_push order z 0 k (sym e)) lz)
@@ -111,7 +116,11 @@ pub before : (old new : List Bool) (y : ℕ) → ((y : ℕ) → get_or old y fal
 before old new y kept f = false_from_ne_true (get_or old y false) (λ t. not_both (get_or new y false) (kept y t) f)
 
 -- the first neighbour of place h that isn't marked comes next, where all neighbours of earlier places are marked
-pub next_near : (n : ℕ) (near : ℕ → ℕ → Bool) (key : ℕ → ℕ) (order : List ℕ) (seen : List Bool) (h i : ℕ) (items : List ℕ) → IsWalk n near order seen h → h < length order → i < length items → get_or items i 0 < n → near (get_or order h 0) (get_or items i 0) ≡ true → get_or seen (get_or items i 0) false ≡ false → ((y : ℕ) → near (get_or order h 0) y ≡ true → get_or seen y false ≡ false → Contains items y) → ((j : ℕ) → j < i → get_or seen (get_or items j 0) false ≡ true) → Rises key items → IsNext n near key order (get_or items i 0)
+pub next_near : (n : ℕ) (near : ℕ → ℕ → Bool) (key : ℕ → ℕ) (order : List ℕ) (seen : List Bool) (h i : ℕ) (items : List ℕ)
+    → IsWalk n near order seen h → h < length order → i < length items → get_or items i 0 < n
+    → near (get_or order h 0) (get_or items i 0) ≡ true → get_or seen (get_or items i 0) false ≡ false
+    → ((y : ℕ) → near (get_or order h 0) y ≡ true → get_or seen y false ≡ false → Contains items y)
+    → ((j : ℕ) → j < i → get_or seen (get_or items j 0) false ≡ true) → Rises key items → IsNext n near key order (get_or items i 0)
 next_near n near key order seen h i items w lh li lz nz f all done rises =
     let z : ℕ = get_or items i 0 in
     let ez : earliest near order z ≡ h = earliest_is n near order z h lh (far n near order seen h z w (omega arith) lz f) nz in
@@ -134,7 +143,10 @@ next_near n near key order seen h i items w lh li lz nz f all done rises =
     }
 
 -- all that weren't marked before and stand in a list are marked
-pub all_done : (near : ℕ → Bool) (old new : List Bool) (items : List ℕ) → ((y : ℕ) → near y ≡ true → get_or old y false ≡ false → Contains items y) → ((y : ℕ) → get_or old y false ≡ true → get_or new y false ≡ true) → ((i : ℕ) → i < length items → get_or new (get_or items i 0) false ≡ true) → (y : ℕ) → near y ≡ true → get_or new y false ≡ true
+pub all_done : (near : ℕ → Bool) (old new : List Bool) (items : List ℕ)
+    → ((y : ℕ) → near y ≡ true → get_or old y false ≡ false → Contains items y)
+    → ((y : ℕ) → get_or old y false ≡ true → get_or new y false ≡ true)
+    → ((i : ℕ) → i < length items → get_or new (get_or items i 0) false ≡ true) → (y : ℕ) → near y ≡ true → get_or new y false ≡ true
 all_done near old new items all kept done y t = ⊎_elim
     (λ (o : get_or old y false ≡ true). kept y o)
     (λ (o : get_or old y false ≡ false).
@@ -143,7 +155,8 @@ all_done near old new items all kept done y t = ⊎_elim
     (cases_Bool (get_or old y false))
 
 -- all neighbours of one more place are marked
-pub walk_closed : (n : ℕ) (near : ℕ → ℕ → Bool) (order : List ℕ) (seen : List Bool) (h : ℕ) → IsWalk n near order seen h → ((y : ℕ) → near (get_or order h 0) y ≡ true → get_or seen y false ≡ true) → IsWalk n near order seen (h + 1)
+pub walk_closed : (n : ℕ) (near : ℕ → ℕ → Bool) (order : List ℕ) (seen : List Bool) (h : ℕ) → IsWalk n near order seen h
+    → ((y : ℕ) → near (get_or order h 0) y ≡ true → get_or seen y false ≡ true) → IsWalk n near order seen (h + 1)
 walk_closed n near order seen h w done = record {
   size = w.size;
   count = w.count;
@@ -163,13 +176,16 @@ marked_set seen z y l t = ⊎_elim
     (λ (e : y ≡ z → ⊥). get_or-set_other seen z y true false e ∙ t)
     (cases_eq y z)
 
-pub done_set : (seen : List Bool) (items : List ℕ) (i : ℕ) → get_or items i 0 < length seen → ((j : ℕ) → j < i → get_or seen (get_or items j 0) false ≡ true) → (j : ℕ) → j < i + 1 → get_or (set seen (get_or items i 0) true) (get_or items j 0) false ≡ true
+pub done_set : (seen : List Bool) (items : List ℕ) (i : ℕ) → get_or items i 0 < length seen
+    → ((j : ℕ) → j < i → get_or seen (get_or items j 0) false ≡ true) → (j : ℕ) → j < i + 1
+    → get_or (set seen (get_or items i 0) true) (get_or items j 0) false ≡ true
 done_set seen items i l h j lj = ⊎_elim
     (λ (e : j ≡ i). rw e (get_or-set_same seen (get_or items i 0) true false l))
     (λ (e : j ≡ i → ⊥). marked_set seen (get_or items i 0) (get_or items j 0) l (h j (omega arith)))
     (cases_eq j i)
 
-pub done_more : (seen : List Bool) (items : List ℕ) (i : ℕ) → get_or seen (get_or items i 0) false ≡ true → ((j : ℕ) → j < i → get_or seen (get_or items j 0) false ≡ true) → (j : ℕ) → j < i + 1 → get_or seen (get_or items j 0) false ≡ true
+pub done_more : (seen : List Bool) (items : List ℕ) (i : ℕ) → get_or seen (get_or items i 0) false ≡ true
+    → ((j : ℕ) → j < i → get_or seen (get_or items j 0) false ≡ true) → (j : ℕ) → j < i + 1 → get_or seen (get_or items j 0) false ≡ true
 done_more seen items i t h j lj = ⊎_elim
     (λ (e : j ≡ i). rw e t)
     (λ (e : j ≡ i → ⊥). h j (omega arith))
@@ -186,7 +202,8 @@ none_left (b ∷ bs) h =
     omega arith
 
 -- all are marked once all starts are
-pub all_marked : (n : ℕ) (starts : List ℕ) (seen : List Bool) → ((y : ℕ) → y < n → Contains starts y) → ((i : ℕ) → i < length starts → get_or seen (get_or starts i 0) false ≡ true) → (y : ℕ) → y < n → get_or seen y false ≡ true
+pub all_marked : (n : ℕ) (starts : List ℕ) (seen : List Bool) → ((y : ℕ) → y < n → Contains starts y)
+    → ((i : ℕ) → i < length starts → get_or seen (get_or starts i 0) false ≡ true) → (y : ℕ) → y < n → get_or seen y false ≡ true
 all_marked n starts seen all done y l =
     let c = all y l in
     subst (λ q. get_or seen q false ≡ true) (get_or_default starts c.0 0 y c.1 ∙ c.2) (done c.0 c.1)

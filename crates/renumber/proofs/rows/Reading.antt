@@ -10,7 +10,8 @@ length_parts [] (b ∷ ends) items l = absurd (omega arith)
 length_parts (a ∷ starts) [] items l = refl
 length_parts (a ∷ starts) (b ∷ ends) items l = let h = length_parts starts ends items (omega arith) in omega arith
 
-pub parts_at : (starts ends items : List ℕ) (k : ℕ) → k < length starts → k < length ends → get_or (parts starts ends items) k [] ≡ take (get_or ends k 0 - get_or starts k 0) (drop (get_or starts k 0) items)
+pub parts_at : (starts ends items : List ℕ) (k : ℕ) → k < length starts → k < length ends
+    → get_or (parts starts ends items) k [] ≡ take (get_or ends k 0 - get_or starts k 0) (drop (get_or starts k 0) items)
 parts_at [] ends items k ls le = absurd (omega arith)
 parts_at (a ∷ starts) [] items k ls le = absurd (omega arith)
 parts_at (a ∷ starts) (b ∷ ends) items zero ls le = refl
@@ -75,7 +76,9 @@ room_is starts ends size k h l =
     rooms_at starts (drop 1 starts) k (omega (arith, c, l)) (omega (arith, n, c, l)) ∙ ap (λ q. q - get_or starts k 0) (later starts k)
 
 -- a row with one more number
-pub parts_push : (starts ends items : List ℕ) (k e v : ℕ) → AreEnds starts ends (length items) → k < length ends → e ≡ get_or ends k 0 → e < get_or starts (k + 1) 0 → parts starts (set ends k (e + 1)) (set items e v) ≡ set (parts starts ends items) k (get_or (parts starts ends items) k [] ++ v ∷ [])
+pub parts_push : (starts ends items : List ℕ) (k e v : ℕ) → AreEnds starts ends (length items) → k < length ends → e ≡ get_or ends k 0
+    → e < get_or starts (k + 1) 0 → parts starts (set ends k (e + 1)) (set items e v) ≡ set (parts starts ends items) k
+    (get_or (parts starts ends items) k [] ++ v ∷ [])
 parts_push starts ends items k e v h l q room =
     let c = h.count in
     let old = length_parts starts ends items (omega (arith, c)) in
@@ -98,7 +101,8 @@ parts_push starts ends items k e v h l q room =
     ∙ (part_push items (get_or starts j 0) e v f (omega (arith, w, room))
     ∙ (ap (λ z. take (z - get_or starts j 0) (drop (get_or starts j 0) items) ++ v ∷ []) (sym o)
     ∙ (ap (λ (z : List ℕ). z ++ v ∷ []) (sym was ∙ ap (λ z. get_or (parts starts ends items) z []) s)
-    ∙ sym (ap (λ z. get_or (set (parts starts ends items) k (get_or (parts starts ends items) k [] ++ v ∷ [])) z []) s ∙ get_or-set_same (parts starts ends items) k (get_or (parts starts ends items) k [] ++ v ∷ []) [] (omega (arith, old, l))))))))
+    ∙ sym (ap (λ z. get_or (set (parts starts ends items) k (get_or (parts starts ends items) k [] ++ v ∷ [])) z []) s
+        ∙ get_or-set_same (parts starts ends items) k (get_or (parts starts ends items) k [] ++ v ∷ []) [] (omega (arith, old, l))))))))
     (λ (s : j ≡ k → ⊥).
     let b : get_or (set ends k (e + 1)) j 0 ≡ get_or ends j 0 = get_or-set_other ends k j (e + 1) 0 s in
     let apart : (get_or ends j 0 ≤ e) ⊎ (e < get_or starts j 0) = ⊎_elim
@@ -117,7 +121,8 @@ parts_push starts ends items k e v h l q room =
     (cases_eq j k))
 
 -- ends after a push
-pub ends_push : (starts ends items : List ℕ) (k e v : ℕ) → AreEnds starts ends (length items) → k < length ends → e ≡ get_or ends k 0 → e < get_or starts (k + 1) 0 → AreEnds starts (set ends k (e + 1)) (length (set items e v))
+pub ends_push : (starts ends items : List ℕ) (k e v : ℕ) → AreEnds starts ends (length items) → k < length ends → e ≡ get_or ends k 0
+    → e < get_or starts (k + 1) 0 → AreEnds starts (set ends k (e + 1)) (length (set items e v))
 ends_push starts ends items k e v h l q room =
     let n = length-set items e v in
     let c = length-set ends k (e + 1) in
@@ -135,7 +140,9 @@ ends_push starts ends items k e v h l q room =
     }
 
 -- rows that are full end where the next start
-pub full : (starts ends items : List ℕ) → AreEnds starts ends (length items) → ((k : ℕ) → k < length ends → length (get_or (parts starts ends items) k []) ≡ get_or (rooms starts (drop 1 starts)) k 0) → ends ≡ drop 1 starts
+pub full : (starts ends items : List ℕ) → AreEnds starts ends (length items)
+    → ((k : ℕ) → k < length ends → length (get_or (parts starts ends items) k []) ≡ get_or (rooms starts (drop 1 starts)) k 0)
+    → ends ≡ drop 1 starts
 full starts ends items h f =
     let c = h.count in
     let n = length_later starts in

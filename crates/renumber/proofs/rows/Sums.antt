@@ -56,7 +56,8 @@ rows_begun starts lengths items end e =
     parts_at (starts ++ end ∷ []) starts items k (omega (arith, p, lk)) lk
     ∙ (ap (λ q. take q (drop (get_or (starts ++ end ∷ []) k 0) items)) z ∙ sym (empty_at lengths k)))
 
-pub room_begun : (starts lengths : List ℕ) (end : ℕ) → length starts ≡ length lengths → AreSums (starts ++ end ∷ []) lengths (length starts) → rooms (starts ++ end ∷ []) (drop 1 (starts ++ end ∷ [])) ≡ lengths
+pub room_begun : (starts lengths : List ℕ) (end : ℕ) → length starts ≡ length lengths → AreSums (starts ++ end ∷ []) lengths (length starts)
+    → rooms (starts ++ end ∷ []) (drop 1 (starts ++ end ∷ [])) ≡ lengths
 room_begun starts lengths end e h =
     let sums : List ℕ = starts ++ end ∷ [] in
     let p = length_push starts end in

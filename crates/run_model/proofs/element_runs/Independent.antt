@@ -40,7 +40,10 @@ is_reducing OpRw h = absurd (let f : ⊥ = cc in f)
 is_reducing OpWrite h = absurd (let f : ⊥ = cc in f)
 is_reducing (OpReduce r) h = (r, refl)
 
-module _ (indep : Independence) (reads : ReadsStay) (ops : (r : Reduction) → IsCommuting (unit_of r) (merged r)) (entry : Entries) (dim width : ℕ → ℕ) (arg : ℕ → Argument) (n e : ℕ) (modes : List Mode) (cell_of : ℕ → ℕ → Cell) (k : RKernel) (is_constant : Cell → Bool) (run : Store → Ran KernelFault) (h : IsElementRun entry dim width arg n e modes cell_of k is_constant run) (obeys : KernelObeys k modes) where
+module _ (indep : Independence) (reads : ReadsStay) (ops : (r : Reduction) → IsCommuting (unit_of r) (merged r)) (entry : Entries)
+    (dim width : ℕ → ℕ) (arg : ℕ → Argument) (n e : ℕ) (modes : List Mode) (cell_of : ℕ → ℕ → Cell) (k : RKernel)
+    (is_constant : Cell → Bool) (run : Store → Ran KernelFault) (h : IsElementRun entry dim width arg n e modes cell_of k is_constant run)
+    (obeys : KernelObeys k modes) where
   abbrev is_reached : Cell → ℕ → Bool
   is_reached c a = reaches entry dim width e (arg a) c
 
@@ -69,14 +72,17 @@ module _ (indep : Independence) (reads : ReadsStay) (ops : (r : Reduction) → I
     also_reaches a i b j c lt mt is same =
         subst (λ x. is_reached x b ≡ true) ((held.aliases b j a i mt lt).0 same ∙ sym is) (h.reach b j mt)
 
-    only_read : (a i : ℕ) (c : Cell) → i < (mode_at modes a).dim → c ≡ cell_of a i → All entry dim width arg n e c (λ x. x ≡ OpRead) → OnlyRead modes ts (target_at ts a).array ((target_at ts a).from + i)
+    only_read : (a i : ℕ) (c : Cell) → i < (mode_at modes a).dim → c ≡ cell_of a i → All entry dim width arg n e c (λ x. x ≡ OpRead)
+        → OnlyRead modes ts (target_at ts a).array ((target_at ts a).from + i)
     only_read a i c lt is all b j jt x y =
         let mt = subst (λ m. j < m) (held.counts b) jt in
         let same = and_from _ _ (eq-eqb _ _ x) (eq-eqb _ _ y) in
         access b j mt ∙ (all b (in_args b j mt) (also_reaches a i b j c lt mt is same))
 
     -- a cell that OP_READ arguments alone reach, or none, stays
-    pub stays : (consts : List ℤ) (after : kernel.Store) (t : Store) (c : Cell) → kernel.Finished after ≡ kernel_meaning ts consts k l → EndsAs entry dim width arg n e modes cell_of ts s (kernel.Finished after) (Finished t) → All entry dim width arg n e c (λ x. x ≡ OpRead) → t c ≡ s c
+    pub stays : (consts : List ℤ) (after : kernel.Store) (t : Store) (c : Cell) → kernel.Finished after ≡ kernel_meaning ts consts k l
+        → EndsAs entry dim width arg n e modes cell_of ts s (kernel.Finished after) (Finished t)
+        → All entry dim width arg n e c (λ x. x ≡ OpRead) → t c ≡ s c
     stays consts after t c ran ends all = ⊎_elim (λ r. by r.0 r.1 (h.reached r.0 c r.1 r.2)) (λ u. ends.1 c u) (search_for (is_reached c) n)
       where
         by : (a : ℕ) → a < n → (i : ℕ) × (i < (mode_at modes a).dim) × (c ≡ cell_of a i) → t c ≡ s c
@@ -102,7 +108,8 @@ module _ (indep : Independence) (reads : ReadsStay) (ops : (r : Reduction) → I
         ∙ sym (held_w.values a i lt)
 
     finished : (consts : List ℤ) (l' m' : kernel.Store) (t u : Store) → kernel.Finished l' ≡ kernel_meaning ts consts k l → kernel.Finished m' ≡ kernel_meaning us consts k m
-        → law.SameChanges modes ts us l m l' m' → EndsAs entry dim width arg n e modes cell_of ts s (kernel.Finished l') (Finished t) → EndsAs entry dim width arg n e modes cell_of us w (kernel.Finished m') (Finished u)
+        → law.SameChanges modes ts us l m l' m' → EndsAs entry dim width arg n e modes cell_of ts s (kernel.Finished l') (Finished t)
+            → EndsAs entry dim width arg n e modes cell_of us w (kernel.Finished m') (Finished u)
         → SameRuns entry dim width arg n e {F = KernelFault} s w (Finished t) (Finished u)
     finished consts l' m' t u ran_s ran_w same ends_s ends_w =
         record {
@@ -110,14 +117,17 @@ module _ (indep : Independence) (reads : ReadsStay) (ops : (r : Reduction) → I
           settles = λ c some. let r = h.reached some.0 c some.1 some.2 in alike c some.0 r.0 r.1 r.2 (same.equal some.0 r.0 r.1 (settled some.0 r.0 r.1 some.3));
           merges = λ c o all. ⊎_elim (λ f. let r = h.reached f.0 c f.1 f.2 in amount c o f.0 r.0 r.1 r.2 (same.amounts o f.0 r.0 r.1 (alone c o f.0 r.0 r.1 r.2 all)))
               (λ none. (unit_of o, ends_s.1 c none ∙ sym (nothing o (s c) (in_s c)), ends_w.1 c none ∙ sym (nothing o (w c) (in_w c)))) (search_for (is_reached c) n);
-          mixes = λ c all eq. ⊎_elim (λ f. let r = h.reached f.0 c f.1 f.2 in alike c f.0 r.0 r.1 r.2 (same.mixed f.0 r.0 r.1 (only_reduced c f.0 r.0 r.1 r.2 all) (held_s.values f.0 r.0 r.1 ∙ ap s (sym r.2) ∙ eq ∙ ap w r.2 ∙ sym (held_w.values f.0 r.0 r.1))))
+          mixes = λ c all eq. ⊎_elim (λ f. let r = h.reached f.0 c f.1 f.2 in
+              alike c f.0 r.0 r.1 r.2 (same.mixed f.0 r.0 r.1 (only_reduced c f.0 r.0 r.1 r.2 all)
+              (held_s.values f.0 r.0 r.1 ∙ ap s (sym r.2) ∙ eq ∙ ap w r.2 ∙ sym (held_w.values f.0 r.0 r.1))))
               (λ none. ends_s.1 c none ∙ eq ∙ sym (ends_w.1 c none)) (search_for (is_reached c) n);
         }
       where
         alike : (c : Cell) (a i : ℕ) → i < (mode_at modes a).dim → c ≡ cell_of a i → read_arg ts l' a i ≡ read_arg us m' a i → t c ≡ u c
         alike c a i lt is x = ap t is ∙ ends_s.0 a i lt ∙ x ∙ sym (ends_w.0 a i lt) ∙ ap u (sym is)
 
-        settled : (a i : ℕ) → i < (mode_at modes a).dim → settling (access_of (arg a)) ≡ true → ((mode_at modes a).access ≡ OpRead) ⊎ ((mode_at modes a).access ≡ OpRw) ⊎ ((mode_at modes a).access ≡ OpWrite)
+        settled : (a i : ℕ) → i < (mode_at modes a).dim → settling (access_of (arg a)) ≡ true → ((mode_at modes a).access ≡ OpRead)
+            ⊎ ((mode_at modes a).access ≡ OpRw) ⊎ ((mode_at modes a).access ≡ OpWrite)
         settled a i lt x = subst (λ y. (y ≡ OpRead) ⊎ (y ≡ OpRw) ⊎ (y ≡ OpWrite)) (sym (access a i lt)) (is_settling (access_of (arg a)) x)
 
         alone : (c : Cell) (o : Reduction) (a i : ℕ) → i < (mode_at modes a).dim → c ≡ cell_of a i → All entry dim width arg n e c (λ x. x ≡ OpReduce o) → Alone modes o ts a i
@@ -128,7 +138,9 @@ module _ (indep : Independence) (reads : ReadsStay) (ops : (r : Reduction) → I
             let r = is_reducing (access_of (arg b)) (all b (in_args b j mt) (also_reaches s ts l held_s a i b j c lt mt is x)) in
             (r.0, access b j mt ∙ r.1)
 
-        amount : (c : Cell) (o : Reduction) (a i : ℕ) → i < (mode_at modes a).dim → c ≡ cell_of a i → (d : ℤ) × (read_arg ts l' a i ≡ merged o (read_arg ts l a i) d) × (read_arg us m' a i ≡ merged o (read_arg us m a i) d) → (d : ℤ) × (t c ≡ merged o (s c) d) × (u c ≡ merged o (w c) d)
+        amount : (c : Cell) (o : Reduction) (a i : ℕ) → i < (mode_at modes a).dim → c ≡ cell_of a i → (d : ℤ)
+            × (read_arg ts l' a i ≡ merged o (read_arg ts l a i) d) × (read_arg us m' a i ≡ merged o (read_arg us m a i) d) → (d : ℤ)
+            × (t c ≡ merged o (s c) d) × (u c ≡ merged o (w c) d)
         amount c o a i lt is x = (
           x.0,
           ap t is ∙ ends_s.0 a i lt ∙ x.1 ∙ ap (λ v. merged o v x.0) (held_s.values a i lt ∙ ap s (sym is)),
@@ -160,7 +172,9 @@ independent indep reads ops entry dim width arg n e modes cell_of k is_constant 
     let held_w = h.held w in
     let same : h.consts w ≡ h.consts s = sym (h.constants s w constant) in
     let ends_w = subst (λ cs. EndsAs entry dim width arg n e modes cell_of us w (kernel_meaning us cs k m) (run w)) same (h.ends w) in
-    let both = indep k modes (h.consts s) ts us l m (h.resolved s) obeys (suits indep reads ops entry dim width arg n e modes cell_of k is_constant run h obeys s ts l held_s in_s) (suits indep reads ops entry dim width arg n e modes cell_of k is_constant run h obeys w us m held_w in_w)
+    let both = indep k modes (h.consts s) ts us l m (h.resolved s) obeys
+        (suits indep reads ops entry dim width arg n e modes cell_of k is_constant run h obeys s ts l held_s in_s)
+        (suits indep reads ops entry dim width arg n e modes cell_of k is_constant run h obeys w us m held_w in_w)
     (aliases indep reads ops entry dim width arg n e modes cell_of k is_constant run h obeys s w in_s in_w ts us l m held_s held_w)
     (inputs indep reads ops entry dim width arg n e modes cell_of k is_constant run h obeys s w in_s in_w ts us l m held_s held_w agree) in
     ended indep reads ops entry dim width arg n e modes cell_of k is_constant run h obeys s w in_s in_w ts us l m held_s held_w (h.consts s)

@@ -78,7 +78,8 @@ module _ (entry : Entries) (dim width : ℕ → ℕ) (arg : ℕ → Argument) (n
 
     -- ---- range, and what is only read
     in_range : RangeStays → (s t : Store) → InRange s → run s ≡ Finished t → InRange t
-    in_range range s t in_s ran = by_meaning (kernel_meaning (h.targets s) (h.consts s) k (h.lists s)) refl (subst (Ends (h.targets s) s (kernel_meaning (h.targets s) (h.consts s) k (h.lists s))) ran (h.ends s))
+    in_range range s t in_s ran = by_meaning (kernel_meaning (h.targets s) (h.consts s) k (h.lists s)) refl
+        (subst (Ends (h.targets s) s (kernel_meaning (h.targets s) (h.consts s) k (h.lists s))) ran (h.ends s))
       where
         all : law.InRange (store_after (kernel_meaning (h.targets s) (h.consts s) k (h.lists s)))
         all = range k (h.targets s) (h.consts s) (h.lists s) (h.resolved s) (h.numbers s in_s) (h.held s).fits (h.in_range s in_s)

@@ -49,7 +49,9 @@ missed (x ∷ xs) (w ∷ ws) c d absent = ⊎_elim
     (λ (t : one_cell x c ≡ false). cond-false (one_cell x c) w (lookup xs ws c d) t ∙ missed xs ws c d (λ j lt e. absent (suc j) (omega arith) e))
     (cases_Bool (one_cell x c))
 
-module _ (entry : Entries) (dim width : ℕ → ℕ) (arg : ℕ → Argument) (n e : ℕ) (modes : List Mode) (cell_of : ℕ → ℕ → Cell) (k : RKernel) (is_constant : Cell → Bool) (run : Store → Ran KernelFault) (h : IsElementRun entry dim width arg n e modes cell_of k is_constant run) (cells : List Cell) (ts : List Target) (on : OnWindows modes cell_of cells ts) (s : Store) where
+module _ (entry : Entries) (dim width : ℕ → ℕ) (arg : ℕ → Argument) (n e : ℕ) (modes : List Mode) (cell_of : ℕ → ℕ → Cell) (k : RKernel)
+    (is_constant : Cell → Bool) (run : Store → Ran KernelFault) (h : IsElementRun entry dim width arg n e modes cell_of k is_constant run)
+    (cells : List Cell) (ts : List Target) (on : OnWindows modes cell_of cells ts) (s : Store) where
   abbrev windows : kernel.Store
   windows = map s cells ∷ []
 
@@ -79,7 +81,9 @@ module _ (entry : Entries) (dim width : ℕ → ℕ) (arg : ℕ → Argument) (n
           sym (on.are a i lt) ∙ ap (λ m. get_or cells m no_cell) (eqb-true ((target_at ts a).from + i) ((target_at ts b).from + j) x.1) ∙ on.are b j mt),
       (λ t. and_from (nat_eq (target_at ts a).array (target_at ts b).array) (nat_eq ((target_at ts a).from + i) ((target_at ts b).from + j))
           (eq-eqb (target_at ts a).array (target_at ts b).array (on.arrays a i lt ∙ sym (on.arrays b j mt)))
-          (eq-eqb ((target_at ts a).from + i) ((target_at ts b).from + j) (on.once ((target_at ts a).from + i) ((target_at ts b).from + j) (on.inside a i lt) (on.inside b j mt) (on.are a i lt ∙ t ∙ sym (on.are b j mt))))),
+          (eq-eqb ((target_at ts a).from + i) ((target_at ts b).from + j)
+              (on.once ((target_at ts a).from + i) ((target_at ts b).from + j) (on.inside a i lt) (on.inside b j mt)
+              (on.are a i lt ∙ t ∙ sym (on.are b j mt))))),
     );
     values = λ a i lt. first_array windows a i lt ∙ map_at s cells ((target_at ts a).from + i) (on.inside a i lt) ∙ ap s (on.are a i lt);
   }
@@ -91,7 +95,8 @@ module _ (entry : Entries) (dim width : ℕ → ℕ) (arg : ℕ → Argument) (n
       let same : cell_of w.0 w.1 ≡ c = sym (on.are w.0 w.1 w.2) ∙ ap (λ m. get_or cells m no_cell) w.3 ∙ at in
       false≢true (sym (none w.0 (is_argument modes n h.count w.0 w.1 w.2)) ∙ subst (λ x. reaches entry dim width e (arg w.0) x ≡ true) same (h.reach w.0 w.1 w.2))
 
-  by_meaning : (x : kernel.Ran) (q : Ran KernelFault) → length (slice_index_or (store_after x) 0 []) ≡ length cells → EndsAs entry dim width arg n e modes cell_of ts s x q → q ≡ of_core cells s (core_of x)
+  by_meaning : (x : kernel.Ran) (q : Ran KernelFault) → length (slice_index_or (store_after x) 0 []) ≡ length cells
+      → EndsAs entry dim width arg n e modes cell_of ts s x q → q ≡ of_core cells s (core_of x)
   by_meaning (kernel.Finished m) (Finished t) len ends = ap Finished (λ i c. equal c i)
     where
       equal : (c : Cell) → t c ≡ lookup cells (slice_index_or m 0 []) c (s c)

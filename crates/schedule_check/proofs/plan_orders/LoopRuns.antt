@@ -171,7 +171,9 @@ module _ (ranks block g : ℕ) (v : SharedValue) (n : ℕ) where
       → AreRunsOf ranks block g (plan_at v.plans slot).colours new.items
       → AreSlotRuns ranks block g v n runs → AreSlotRuns ranks block g v (n + 1) (set runs slot new)
   runs_put runs slot new ls is right are = record {
-    each = λ k. ⊎_elim (λ (e : k ≡ slot). inr (here k e)) (λ (ne : k ≡ slot → ⊥). subst (λ z. (z ≡ []) ⊎ AreRunsOf ranks block g (plan_at v.plans k).colours z) (sym (there k ne)) (are.each k)) (cases_eq k slot);
+    each = λ k. ⊎_elim (λ (e : k ≡ slot). inr (here k e))
+        (λ (ne : k ≡ slot → ⊥). subst (λ z. (z ≡ []) ⊎ AreRunsOf ranks block g (plan_at v.plans k).colours z) (sym (there k ne))
+        (are.each k)) (cases_eq k slot);
     loops = λ s k l h. ⊎_elim
         (λ (e : k ≡ slot). here k e)
         (λ (ne : k ≡ slot → ⊥). ⊎_elim

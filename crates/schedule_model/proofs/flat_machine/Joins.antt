@@ -31,7 +31,9 @@ module _ {F : Type 0} (p : Setup F) (own : Owners p) (l : Layout F) (q : IsLayou
   reduce_same : (k : ℕ) (f : Flat F) (a : State F) → Same p l f a → Same p l (reduce_flat p l k f) (reduced p k a)
   reduce_same k f a h = record {
     memories = h.memories;
-    variables = values_changed l f.variables a.variables (λ v x. merge_ranks p l f (p.reduces (p.program.site k) v) (p.program.site k) v p.ranks x) (λ v. merged_from a (p.reduces (p.program.site k) v) (p.program.site k) v p.ranks (a.variables v)) h.variables
+    variables = values_changed l f.variables a.variables
+        (λ v x. merge_ranks p l f (p.reduces (p.program.site k) v) (p.program.site k) v p.ranks x)
+        (λ v. merged_from a (p.reduces (p.program.site k) v) (p.program.site k) v p.ranks (a.variables v)) h.variables
         (λ v. merge_same f a h (p.reduces (p.program.site k) v) (p.program.site k) v p.ranks (a.variables v));
     partials = λ r s v. ap (cond (s == p.program.site k) (unit_at (p.reduces s v))) (h.partials r s v);
     mail = h.mail;
@@ -70,7 +72,8 @@ module _ {F : Type 0} (p : Setup F) (own : Owners p) (l : Layout F) (q : IsLayou
   stop_same f b x h = record { memories = h.memories; variables = h.variables; partials = h.partials; mail = h.mail; panes = h.panes; faults = h.faults; output = h.output; stop = refl }
 
   -- one element
-  element_same : (k e : ℕ) (f : Flat F) (a : State F) (t : Store) → Same p l f (spread p t a) → (b : Core F) → Same p l (element_flat p l k e b f) (looped p k (after_run e t (of_core (l.cells k e) t b)) a)
+  element_same : (k e : ℕ) (f : Flat F) (a : State F) (t : Store) → Same p l f (spread p t a) → (b : Core F)
+      → Same p l (element_flat p l k e b f) (looped p k (after_run e t (of_core (l.cells k e) t b)) a)
   element_same k e f a t h (Faults n) = stop_same f (spread p t a) (record { item = k; element = Some e; fault = n }) h
   element_same k e f a t h (Leaves ws) = record {
     memories = all_changed p l f.memories (λ r c. cond (owner_of p c == r) (t (Data c)) (a.memories r c)) (λ r c v. cond (owner_of p c == r) (lookup (l.cells k e) ws (Data c) v) v)
@@ -90,7 +93,8 @@ module _ {F : Type 0} (p : Setup F) (own : Owners p) (l : Layout F) (q : IsLayou
       twice false c v w = refl
 
   -- what an element's windows are given
-  gather_same : (k e : ℕ) (f : Flat F) (a : State F) (t : Store) → is_loop (p.program.kind k) ≡ true → e < elements p.program k → Same p l f (spread p t a) → map (owned p l f) (l.cells k e) ≡ map t (l.cells k e)
+  gather_same : (k e : ℕ) (f : Flat F) (a : State F) (t : Store) → is_loop (p.program.kind k) ≡ true → e < elements p.program k
+      → Same p l f (spread p t a) → map (owned p l f) (l.cells k e) ≡ map t (l.cells k e)
   gather_same k e f a t lp lt h = map_same (owned p l f) t (l.cells k e) (λ c i. owned_is f (spread p t a) h c (q.exist k e c lp lt i) ∙ back c)
     where
       back : (c : Cell) → gathered p (spread p t a) c ≡ t c
@@ -103,17 +107,31 @@ module _ {F : Type 0} (p : Setup F) (own : Owners p) (l : Layout F) (q : IsLayou
       ap (λ z. z ∷ map (variable p l f) xs) (variable_is p l q f (spread p t a) h v i.0) ∙ ap (λ zs. t (Variable v) ∷ zs) (constants_same f a t h xs i.2)
 
   -- one element more
-  more_same : (k n : ℕ) (a : State F) → is_loop (p.program.kind k) ≡ true → n < elements p.program k → a.stop ≡ None → (f : Flat F) (r : Loop F) → Same p l f (looped p k r a) → Same p l (cond (is_some f.stop) f (element_flat p l k n (l.core k n (map (variable p l f) l.constants) (map (owned p l f) (l.cells k n))) f)) (looped p k (one_more p.program k n r) a)
+  more_same : (k n : ℕ) (a : State F) → is_loop (p.program.kind k) ≡ true → n < elements p.program k → a.stop ≡ None
+      → (f : Flat F) (r : Loop F) → Same p l f (looped p k r a)
+      → Same p l (cond (is_some f.stop) f
+      (element_flat p l k n (l.core k n (map (variable p l f) l.constants) (map (owned p l f) (l.cells k n))) f))
+      (looped p k (one_more p.program k n r) a)
   more_same k n a lp lt none f (Broke e x t) h =
-      subst (λ z. Same p l z (looped p k (Broke e x t) a)) (sym (cond-true (is_some f.stop) f (element_flat p l k n (l.core k n (map (variable p l f) l.constants) (map (owned p l f) (l.cells k n))) f) (ap is_some h.stop))) h
+      subst (λ z. Same p l z (looped p k (Broke e x t) a))
+          (sym (cond-true (is_some f.stop) f
+          (element_flat p l k n (l.core k n (map (variable p l f) l.constants) (map (owned p l f) (l.cells k n))) f) (ap is_some h.stop))) h
   more_same k n a lp lt none f (Ran_through t) h =
-      subst (λ z. Same p l z (looped p k (one_more p.program k n (Ran_through t)) a)) (sym (cond-false (is_some f.stop) f (element_flat p l k n (l.core k n (map (variable p l f) l.constants) (map (owned p l f) (l.cells k n))) f) (ap is_some (h.stop ∙ none))))
+      subst (λ z. Same p l z (looped p k (one_more p.program k n (Ran_through t)) a))
+          (sym (cond-false (is_some f.stop) f
+          (element_flat p l k n (l.core k n (map (variable p l f) l.constants) (map (owned p l f) (l.cells k n))) f)
+          (ap is_some (h.stop ∙ none))))
       (subst (λ z. Same p l (element_flat p l k n (l.core k n (map (variable p l f) l.constants) (map (owned p l f) (l.cells k n))) f) (looped p k (after_run n t z) a)) (sym (q.run_is k n t lp lt))
-      (subst (λ z. Same p l (element_flat p l k n (l.core k n (map (variable p l f) l.constants) (map (owned p l f) (l.cells k n))) f) (looped p k (after_run n t (of_core (l.cells k n) t (l.core k n (map (λ v. t (Variable v)) l.constants) z))) a)) (gather_same k n f a t lp lt h)
-      (subst (λ z. Same p l (element_flat p l k n (l.core k n (map (variable p l f) l.constants) (map (owned p l f) (l.cells k n))) f) (looped p k (after_run n t (of_core (l.cells k n) t (l.core k n z (map (owned p l f) (l.cells k n))))) a)) (constants_same f a t h l.constants q.constants_are)
+      (subst (λ z. Same p l (element_flat p l k n (l.core k n (map (variable p l f) l.constants) (map (owned p l f) (l.cells k n))) f)
+          (looped p k (after_run n t (of_core (l.cells k n) t (l.core k n (map (λ v. t (Variable v)) l.constants) z))) a))
+          (gather_same k n f a t lp lt h)
+      (subst (λ z. Same p l (element_flat p l k n (l.core k n (map (variable p l f) l.constants) (map (owned p l f) (l.cells k n))) f)
+          (looped p k (after_run n t (of_core (l.cells k n) t (l.core k n z (map (owned p l f) (l.cells k n))))) a))
+          (constants_same f a t h l.constants q.constants_are)
       (element_same k n f a t h (l.core k n (map (variable p l f) l.constants) (map (owned p l f) (l.cells k n)))))))
 
-  loop_same : (k n : ℕ) (f : Flat F) (a : State F) → is_loop (p.program.kind k) ≡ true → n ≤ elements p.program k → a.stop ≡ None → Same p l f a → Same p l (loop_flat p l k n f) (looped p k (loop p.program k n (gathered p a)) a)
+  loop_same : (k n : ℕ) (f : Flat F) (a : State F) → is_loop (p.program.kind k) ≡ true → n ≤ elements p.program k → a.stop ≡ None
+      → Same p l f a → Same p l (loop_flat p l k n f) (looped p k (loop p.program k n (gathered p a)) a)
   loop_same k zero f a lp le none h = spread_same f a h
   loop_same k (suc n) f a lp le none h = more_same k n a lp (omega arith) none (loop_flat p l k n f) (loop p.program k n (gathered p a)) (loop_same k n f a lp (omega arith) none h)
 
@@ -131,7 +149,9 @@ module _ {F : Type 0} (p : Setup F) (own : Owners p) (l : Layout F) (q : IsLayou
     stop = h.stop;
   }
     where
-      given : (v u : VarCell → ℤ) → Values l (updated (λ i x. v (l.variable_at i)) 0 f.variables) v → ((i : ℕ) → i < l.variables → v (l.variable_at i) ≡ u (l.variable_at i)) → Values l (updated (λ i x. v (l.variable_at i)) 0 f.variables) u
+      given : (v u : VarCell → ℤ) → Values l (updated (λ i x. v (l.variable_at i)) 0 f.variables) v
+          → ((i : ℕ) → i < l.variables → v (l.variable_at i) ≡ u (l.variable_at i))
+          → Values l (updated (λ i x. v (l.variable_at i)) 0 f.variables) u
       given v u x y = record { wide = x.wide; values = λ i lt. x.values i lt ∙ y i lt }
   host_same k f a h (Halts n) (Goes u o) e = absurd e
   host_same k f a h (Goes v w) (Halts m) e = absurd e

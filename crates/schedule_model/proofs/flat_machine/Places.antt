@@ -41,7 +41,8 @@ has_back f (s ∷ l) u h = ⊎_elim
     (λ (e : has (map f l) u ≡ true). let r : (t : Step) × (x : List Step) × (y : List Step) × (l ≡ x ++ (t ∷ y)) × (u ≡ f t) = has_back f l u e in (r.0, s ∷ r.1, r.2, ap (λ z. s ∷ z) r.3, r.4))
     (or_cases (same u (f s)) (has (map f l) u) h)
 
-split_map : (f : Step → Step) (l pre : List Step) (s : Step) (post : List Step) → map f l ≡ pre ++ (s ∷ post) → (x : List Step) × (t : Step) × (y : List Step) × (l ≡ x ++ (t ∷ y)) × (pre ≡ map f x) × (s ≡ f t) × (post ≡ map f y)
+split_map : (f : Step → Step) (l pre : List Step) (s : Step) (post : List Step) → map f l ≡ pre ++ (s ∷ post) → (x : List Step) × (t : Step)
+    × (y : List Step) × (l ≡ x ++ (t ∷ y)) × (pre ≡ map f x) × (s ≡ f t) × (post ≡ map f y)
 split_map f [] [] s post h = cc
 split_map f [] (u ∷ pre) s post h = cc
 split_map f (t ∷ l) [] s post h = ([], t, l, refl, refl, (let e : f t ≡ s = cc in sym e), (let e : map f l ≡ post = cc in sym e))
@@ -52,17 +53,20 @@ split_map f (t ∷ l) (u ∷ pre) s post h =
 
 module _ {F : Type 0} (p : Setup F) (l : Layout F) (q : IsLayout p l) where
   -- the element of a place
-  pub place_runs : (k r x : ℕ) → p.program.kind k ≡ Free → r < p.ranks → (nat_lt x (l.count k r) && true) ≡ true → (x < l.count k r) × (l.original k r x < elements p.program k) × (executes p k r (l.original k r x) ≡ true) × (l.local k r (l.original k r x) ≡ x)
+  pub place_runs : (k r x : ℕ) → p.program.kind k ≡ Free → r < p.ranks → (nat_lt x (l.count k r) && true) ≡ true → (x < l.count k r)
+      × (l.original k r x < elements p.program k) × (executes p k r (l.original k r x) ≡ true) × (l.local k r (l.original k r x) ≡ x)
   place_runs k r x fr lr h =
       let lt : x < l.count k r = ltb-true x (l.count k r) (and_parts (nat_lt x (l.count k r)) true h).0 in
       let o : (l.original k r x < elements p.program k) × (executes p k r (l.original k r x) ≡ true) × (l.local k r (l.original k r x) ≡ x) = q.outside k r x fr lr lt in (lt, o.0, o.1, o.2)
 
-  run_place : (k r x : ℕ) → p.program.kind k ≡ Free → r < p.ranks → (nat_lt x (l.count k r) && true) ≡ true → (nat_lt (l.original k r x) (elements p.program k) && executes p k r (l.original k r x)) ≡ true
+  run_place : (k r x : ℕ) → p.program.kind k ≡ Free → r < p.ranks → (nat_lt x (l.count k r) && true) ≡ true
+      → (nat_lt (l.original k r x) (elements p.program k) && executes p k r (l.original k r x)) ≡ true
   run_place k r x fr lr h =
       let i : (x < l.count k r) × (l.original k r x < elements p.program k) × (executes p k r (l.original k r x) ≡ true) × (l.local k r (l.original k r x) ≡ x) = place_runs k r x fr lr h in
       and_from (nat_lt (l.original k r x) (elements p.program k)) (executes p k r (l.original k r x)) (lt-ltb (l.original k r x) (elements p.program k) i.1) i.2
 
-  element_runs : (k r e : ℕ) → p.program.kind k ≡ Free → r < p.ranks → (nat_lt e (elements p.program k) && executes p k r e) ≡ true → ((nat_lt (l.local k r e) (l.count k r) && true) ≡ true) × (l.original k r (l.local k r e) ≡ e)
+  element_runs : (k r e : ℕ) → p.program.kind k ≡ Free → r < p.ranks → (nat_lt e (elements p.program k) && executes p k r e) ≡ true
+      → ((nat_lt (l.local k r e) (l.count k r) && true) ≡ true) × (l.original k r (l.local k r e) ≡ e)
   element_runs k r e fr lr h =
       let a : (nat_lt e (elements p.program k) ≡ true) × (executes p k r e ≡ true) = and_parts (nat_lt e (elements p.program k)) (executes p k r e) h in
       let i : (l.local k r e < l.count k r) × (l.original k r (l.local k r e) ≡ e) = q.inside k r e fr lr (ltb-true e (elements p.program k) a.0) a.1 in
@@ -78,8 +82,10 @@ module _ {F : Type 0} (p : Setup F) (l : Layout F) (q : IsLayout p l) where
   place_step : (s : Step) → IsStep (outline p) s → IsStep (by_place p l) (to_place l s) × (to_element l (to_place l s) ≡ s)
   place_step (Send k s r) h = (h, refl)
   place_step (Recv k r s) h = (h, refl)
-  place_step (Begin k r e) h = let i : ((nat_lt (l.local k r e) (l.count k r) && true) ≡ true) × (l.original k r (l.local k r e) ≡ e) = element_runs k r e (free_kind (p.program.kind k) h.1) h.2 h.3 in ((h.0, h.1, h.2, i.0), ap (Begin k r) i.1)
-  place_step (End k r e) h = let i : ((nat_lt (l.local k r e) (l.count k r) && true) ≡ true) × (l.original k r (l.local k r e) ≡ e) = element_runs k r e (free_kind (p.program.kind k) h.1) h.2 h.3 in ((h.0, h.1, h.2, i.0), ap (End k r) i.1)
+  place_step (Begin k r e) h = let i : ((nat_lt (l.local k r e) (l.count k r) && true) ≡ true) × (l.original k r (l.local k r e) ≡ e) =
+      element_runs k r e (free_kind (p.program.kind k) h.1) h.2 h.3 in ((h.0, h.1, h.2, i.0), ap (Begin k r) i.1)
+  place_step (End k r e) h = let i : ((nat_lt (l.local k r e) (l.count k r) && true) ≡ true) × (l.original k r (l.local k r e) ≡ e) =
+      element_runs k r e (free_kind (p.program.kind k) h.1) h.2 h.3 in ((h.0, h.1, h.2, i.0), ap (End k r) i.1)
   place_step (Join k) h = (h, refl)
 
   back : (s : Step) → IsStep (by_place p l) s → to_place l (to_element l s) ≡ s
@@ -104,16 +110,20 @@ module _ {F : Type 0} (p : Setup F) (l : Layout F) (q : IsLayout p l) where
   item_place (Join k) = refl
 
   -- a place has its element's colour
-  colour_place : (k r e f : ℕ) → l.original k r (l.local k r e) ≡ e → l.original k r (l.local k r f) ≡ f → by_colour (outline p) k r e f ≡ true → by_colour (by_place p l) k r (l.local k r e) (l.local k r f) ≡ true
+  colour_place : (k r e f : ℕ) → l.original k r (l.local k r e) ≡ e → l.original k r (l.local k r f) ≡ f
+      → by_colour (outline p) k r e f ≡ true → by_colour (by_place p l) k r (l.local k r e) (l.local k r f) ≡ true
   colour_place k r e f i j h = ap (λ z. by_colour (outline p) k r z (l.original k r (l.local k r f))) i ∙ (ap (by_colour (outline p) k r e) j ∙ h)
 
   earlier_place : (t s : Step) → Earlier (outline p) t s → IsStep (outline p) t → IsStep (outline p) s → Earlier (by_place p l) (to_place l t) (to_place l s)
-  earlier_place t s (by_item r a b lt) pt ps = by_item r (of_place t r a) (of_place s r b) (let i : item (to_place l t) ≡ item t = item_place t in let j : item (to_place l s) ≡ item s = item_place s in omega arith)
+  earlier_place t s (by_item r a b lt) pt ps = by_item r (of_place t r a) (of_place s r b)
+      (let i : item (to_place l t) ≡ item t = item_place t in let j : item (to_place l s) ≡ item s = item_place s in omega arith)
   earlier_place _ _ sent pt ps = sent
   earlier_place _ _ sent_first pt ps = sent_first
   earlier_place _ _ (received {k} {r} {s} {e} h) pt ps = received (ap (p.core r (p.program.set k)) (element_runs k r e (free_kind (p.program.kind k) ps.1) ps.2 ps.3).1 ∙ h)
   earlier_place _ _ begun pt ps = begun
-  earlier_place _ _ (coloured {k} {r} {e} {f} h) pt ps = coloured (colour_place k r e f (element_runs k r e (free_kind (p.program.kind k) pt.1) pt.2 pt.3).1 (element_runs k r f (free_kind (p.program.kind k) ps.1) ps.2 ps.3).1 h)
+  earlier_place _ _ (coloured {k} {r} {e} {f} h) pt ps =
+      coloured (colour_place k r e f (element_runs k r e (free_kind (p.program.kind k) pt.1) pt.2 pt.3).1
+      (element_runs k r f (free_kind (p.program.kind k) ps.1) ps.2 ps.3).1 h)
 
   -- a step of the mapped list
   abbrev Behind : List Step → List Step → Step → List Step → Type 0

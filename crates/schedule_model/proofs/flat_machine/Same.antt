@@ -35,7 +35,8 @@ PostsSame l s r [] (y ∷ ys) = ⊥
 PostsSame l s r (x ∷ xs) [] = ⊥
 PostsSame l s r (x ∷ xs) (y ∷ ys) = PostSame l s r x y × PostsSame l s r xs ys
 
-pub posts_push : {F : Type 0} (l : Layout F) (s r : ℕ) (xs : List Post) (ys : List Message) (x : Post) (y : Message) → PostsSame l s r xs ys → PostSame l s r x y → PostsSame l s r (xs ++ (x ∷ [])) (ys ++ (y ∷ []))
+pub posts_push : {F : Type 0} (l : Layout F) (s r : ℕ) (xs : List Post) (ys : List Message) (x : Post) (y : Message) → PostsSame l s r xs ys
+    → PostSame l s r x y → PostsSame l s r (xs ++ (x ∷ [])) (ys ++ (y ∷ []))
 posts_push l s r [] [] x y h new = (new, tt)
 posts_push l s r [] (b ∷ ys) x y h new = absurd h
 posts_push l s r (a ∷ xs) [] x y h new = absurd h
@@ -67,7 +68,8 @@ pub changed : {F : Type 0} (p : Setup F) (l : Layout F) (memories : List (List �
     → ((i : ℕ) → i < l.width r → g (l.cell_at r i) (mem r (l.cell_at r i)) ≡ new (l.cell_at r i)) → Copies p l (change p l r g memories) (put1 r new mem)
 changed p l memories mem r g new h lt same =
     let here : get_or (change p l r g memories) r [] ≡ updated (λ i v. g (l.cell_at r i) v) 0 (get_or memories r []) =
-    (let fits : r < length memories = (let w : length memories ≡ p.ranks = h.wide in omega arith) in get_or-set_same memories r (updated (λ i v. g (l.cell_at r i) v) 0 (get_or memories r [])) [] fits) in
+    (let fits : r < length memories = (let w : length memories ≡ p.ranks = h.wide in omega arith) in
+        get_or-set_same memories r (updated (λ i v. g (l.cell_at r i) v) 0 (get_or memories r [])) [] fits) in
     record {
       wide = length-set memories r (updated (λ i v. g (l.cell_at r i) v) 0 (get_or memories r [])) ∙ h.wide;
       widths = λ x xl. ⊎_elim

@@ -74,7 +74,8 @@ module _ (taken : DatCell → Bool) (place : DatCell → ℕ) (cell_at : ℕ →
   fewer : (x : Cell) (xs : List Cell) (n : ℕ) → Placed taken place cell_at (x ∷ xs) n → Placed taken place cell_at xs n
   fewer x xs n h = record { inside = λ c i t. h.inside c (or_right (same_cell x (Data c)) (among xs (Data c)) i) t; one_cell = h.one_cell }
 
-  at : (xs : List Cell) (ws buffer : List ℤ) → Once xs → Placed taken place cell_at xs (length buffer) → (i : ℕ) → i < length buffer → get_or (scatter taken place xs ws buffer) i (pos 0) ≡ found xs ws i (get_or buffer i (pos 0))
+  at : (xs : List Cell) (ws buffer : List ℤ) → Once xs → Placed taken place cell_at xs (length buffer) → (i : ℕ) → i < length buffer
+      → get_or (scatter taken place xs ws buffer) i (pos 0) ≡ found xs ws i (get_or buffer i (pos 0))
   at [] ws buffer once h i lt = sym (cond_same (taken (cell_at i)) (get_or buffer i (pos 0)))
   at (x ∷ xs) [] buffer once h i lt = sym (cond_same (taken (cell_at i)) (get_or buffer i (pos 0)))
   at (Data c ∷ xs) (w ∷ ws) buffer once h i lt =

@@ -62,9 +62,12 @@ module _ {F : Type 0} (p : Setup F) (l : Layout F) (q : IsLayout p l) (f : Flat 
     stop = h.stop;
   }
 
-  deliver_same : (r s : ℕ) → r < p.ranks → (x : Post) (xs : List Post) (y : Message) (ys : List Message) → PostSame l s r x y → PostsSame l s r xs ys → Same p l (take_post p l r s (x ∷ xs) f) (delivered p x.about r s y ys a)
+  deliver_same : (r s : ℕ) → r < p.ranks → (x : Post) (xs : List Post) (y : Message) (ys : List Message) → PostSame l s r x y
+      → PostsSame l s r xs ys → Same p l (take_post p l r s (x ∷ xs) f) (delivered p x.about r s y ys a)
   deliver_same r s lt x xs y ys one rest = record {
-    memories = changed p l f.memories a.memories r (λ c v. cond (arrives p x.about r s c) (lookup (l.exports x.about s r) x.values (Data c) v) v) (λ c. cond (arrives p x.about r s c) (y.values c) (a.memories r c)) h.memories lt
+    memories = changed p l f.memories a.memories r
+        (λ c v. cond (arrives p x.about r s c) (lookup (l.exports x.about s r) x.values (Data c) v) v)
+        (λ c. cond (arrives p x.about r s c) (y.values c) (a.memories r c)) h.memories lt
         (λ i il. ⊎_elim
         (λ (t : arrives p x.about r s (l.cell_at r i) ≡ true).
         cond-true (arrives p x.about r s (l.cell_at r i)) (lookup (l.exports x.about s r) x.values (Data (l.cell_at r i)) (a.memories r (l.cell_at r i))) (a.memories r (l.cell_at r i)) t
@@ -103,25 +106,36 @@ module _ {F : Type 0} (p : Setup F) (l : Layout F) (q : IsLayout p l) (f : Flat 
 
   -- one frame changes alike
   panes_put : (k r x : ℕ) (b : Pane) (c : Frame) → p.program.kind k ≡ Free → r < p.ranks → x < l.count k r → PaneSame l k (l.original k r x) b c
-      → (k1 r1 x1 : ℕ) → p.program.kind k1 ≡ Free → r1 < p.ranks → x1 < l.count k1 r1 → PaneSame l k1 (l.original k1 r1 x1) (put3 k r x b f.panes k1 r1 x1) (put3 k r (l.original k r x) c a.frames k1 r1 (l.original k1 r1 x1))
+      → (k1 r1 x1 : ℕ) → p.program.kind k1 ≡ Free → r1 < p.ranks → x1 < l.count k1 r1
+          → PaneSame l k1 (l.original k1 r1 x1) (put3 k r x b f.panes k1 r1 x1)
+          (put3 k r (l.original k r x) c a.frames k1 r1 (l.original k1 r1 x1))
   panes_put k r x b c fr lr lt new k1 r1 x1 fr1 lr1 lt1 = ⊎_elim
       (λ (y : same3 k1 r1 x1 k r x ≡ true).
       let e : (k1 ≡ k) × (r1 ≡ r) × (x1 ≡ x) = same3_true k1 r1 x1 k r x y in
       let o : l.original k1 r1 x1 ≡ l.original k r x = ap (λ z. l.original z r1 x1) e.0 ∙ (ap (λ z. l.original k z x1) e.1 ∙ ap (l.original k r) e.2) in
-      let both : same3 k1 r1 (l.original k1 r1 x1) k r (l.original k r x) ≡ true = and_from (k1 == k) ((r1 == r) && (l.original k1 r1 x1 == l.original k r x)) (eq-eqb k1 k e.0) (and_from (r1 == r) (l.original k1 r1 x1 == l.original k r x) (eq-eqb r1 r e.1) (eq-eqb (l.original k1 r1 x1) (l.original k r x) o)) in
+      let both : same3 k1 r1 (l.original k1 r1 x1) k r (l.original k r x) ≡ true =
+          and_from (k1 == k) ((r1 == r) && (l.original k1 r1 x1 == l.original k r x)) (eq-eqb k1 k e.0)
+          (and_from (r1 == r) (l.original k1 r1 x1 == l.original k r x) (eq-eqb r1 r e.1)
+          (eq-eqb (l.original k1 r1 x1) (l.original k r x) o)) in
       subst (λ z. PaneSame l k1 (l.original k1 r1 x1) z (put3 k r (l.original k r x) c a.frames k1 r1 (l.original k1 r1 x1))) (sym (cond-true (same3 k1 r1 x1 k r x) b (f.panes k1 r1 x1) y))
       (subst (λ z. PaneSame l k1 (l.original k1 r1 x1) b z) (sym (cond-true (same3 k1 r1 (l.original k1 r1 x1) k r (l.original k r x)) c (a.frames k1 r1 (l.original k1 r1 x1)) both))
       (subst (λ z. PaneSame l z (l.original k1 r1 x1) b c) (sym e.0) (subst (λ z. PaneSame l k z b c) (sym o) new))))
       (λ (y : same3 k1 r1 x1 k r x ≡ false).
       let neither : same3 k1 r1 (l.original k1 r1 x1) k r (l.original k r x) ≡ false = false_from_ne_true (same3 k1 r1 (l.original k1 r1 x1) k r (l.original k r x)) (λ t.
       let e : (k1 ≡ k) × (r1 ≡ r) × (l.original k1 r1 x1 ≡ l.original k r x) = same3_true k1 r1 (l.original k1 r1 x1) k r (l.original k r x) t in
-      let i : x1 ≡ x = sym (q.outside k1 r1 x1 fr1 lr1 lt1).2 ∙ (ap (λ z. l.local z r1 (l.original k1 r1 x1)) e.0 ∙ (ap (λ z. l.local k z (l.original k1 r1 x1)) e.1 ∙ (ap (l.local k r) e.2 ∙ (q.outside k r x fr lr lt).2))) in
+      let i : x1 ≡ x = sym (q.outside k1 r1 x1 fr1 lr1 lt1).2
+          ∙ (ap (λ z. l.local z r1 (l.original k1 r1 x1)) e.0
+          ∙ (ap (λ z. l.local k z (l.original k1 r1 x1)) e.1 ∙ (ap (l.local k r) e.2 ∙ (q.outside k r x fr lr lt).2))) in
       false≢true (sym y ∙ and_from (k1 == k) ((r1 == r) && (x1 == x)) (eq-eqb k1 k e.0) (and_from (r1 == r) (x1 == x) (eq-eqb r1 r e.1) (eq-eqb x1 x i)))) in
       subst (λ z. PaneSame l k1 (l.original k1 r1 x1) z (put3 k r (l.original k r x) c a.frames k1 r1 (l.original k1 r1 x1))) (sym (cond-false (same3 k1 r1 x1 k r x) b (f.panes k1 r1 x1) y))
-      (subst (λ z. PaneSame l k1 (l.original k1 r1 x1) (f.panes k1 r1 x1) z) (sym (cond-false (same3 k1 r1 (l.original k1 r1 x1) k r (l.original k r x)) c (a.frames k1 r1 (l.original k1 r1 x1)) neither)) (h.panes k1 r1 x1 fr1 lr1 lt1)))
+      (subst (λ z. PaneSame l k1 (l.original k1 r1 x1) (f.panes k1 r1 x1) z)
+          (sym (cond-false (same3 k1 r1 (l.original k1 r1 x1) k r (l.original k r x)) c (a.frames k1 r1 (l.original k1 r1 x1)) neither))
+          (h.panes k1 r1 x1 fr1 lr1 lt1)))
       (cases_Bool (same3 k1 r1 x1 k r x))
 
-  opened_same : (k r x : ℕ) → p.program.kind k ≡ Free → r < p.ranks → x < l.count k r → (b : Core F) → ((ws : List ℤ) → b ≡ Leaves ws → length ws ≡ length (l.cells k (l.original k r x))) → Same p l (open_pane p l k r x b f) (opened k r (l.original k r x) (of_core (l.cells k (l.original k r x)) (view p k r a) b) a)
+  opened_same : (k r x : ℕ) → p.program.kind k ≡ Free → r < p.ranks → x < l.count k r → (b : Core F)
+      → ((ws : List ℤ) → b ≡ Leaves ws → length ws ≡ length (l.cells k (l.original k r x)))
+      → Same p l (open_pane p l k r x b f) (opened k r (l.original k r x) (of_core (l.cells k (l.original k r x)) (view p k r a) b) a)
   opened_same k r x fr lr lt (Faults n) len = record {
     memories = h.memories;
     variables = h.variables;
@@ -154,13 +168,21 @@ module _ {F : Type 0} (p : Setup F) (l : Layout F) (q : IsLayout p l) (f : Flat 
   begin_same k r x fr lr lt =
       let o : (l.original k r x < elements p.program k) × (executes p k r (l.original k r x) ≡ true) × (l.local k r (l.original k r x) ≡ x) = q.outside k r x fr lr lt in
       subst (λ z. Same p l (flat_step p l (Begin k r x) f) (opened k r (l.original k r x) z a)) (sym (q.run_is k (l.original k r x) (view p k r a) (loop_kind k fr) o.0))
-      (subst (λ z. Same p l (flat_step p l (Begin k r x) f) (opened k r (l.original k r x) (of_core (l.cells k (l.original k r x)) (view p k r a) (l.core k (l.original k r x) (map (λ v. view p k r a (Variable v)) l.constants) z)) a)) (windows k r (l.original k r x) fr lr o.0 o.1)
-      (subst (λ z. Same p l (flat_step p l (Begin k r x) f) (opened k r (l.original k r x) (of_core (l.cells k (l.original k r x)) (view p k r a) (l.core k (l.original k r x) z (map (window p l f k r) (l.cells k (l.original k r x))))) a)) (constants_view k r fr l.constants q.constants_are)
+      (subst (λ z. Same p l (flat_step p l (Begin k r x) f)
+          (opened k r (l.original k r x) (of_core (l.cells k (l.original k r x)) (view p k r a)
+          (l.core k (l.original k r x) (map (λ v. view p k r a (Variable v)) l.constants) z)) a))
+          (windows k r (l.original k r x) fr lr o.0 o.1)
+      (subst (λ z. Same p l (flat_step p l (Begin k r x) f)
+          (opened k r (l.original k r x) (of_core (l.cells k (l.original k r x)) (view p k r a)
+          (l.core k (l.original k r x) z (map (window p l f k r) (l.cells k (l.original k r x))))) a))
+          (constants_view k r fr l.constants q.constants_are)
       (opened_same k r x fr lr lt (l.core k (l.original k r x) (map (variable p l f) l.constants) (map (window p l f k r) (l.cells k (l.original k r x))))
-      (λ ws i. q.same_length k (l.original k r x) (map (variable p l f) l.constants) (map (window p l f k r) (l.cells k (l.original k r x))) ws (loop_kind k fr) o.0 (map_length (window p l f k r) (l.cells k (l.original k r x))) i))))
+      (λ ws i. q.same_length k (l.original k r x) (map (variable p l f) l.constants) (map (window p l f k r) (l.cells k (l.original k r x)))
+          ws (loop_kind k fr) o.0 (map_length (window p l f k r) (l.cells k (l.original k r x))) i))))
 
   -- ---- end
-  shut_same : (k r x : ℕ) → p.program.kind k ≡ Free → r < p.ranks → x < l.count k r → Same p l (record f { panes = put3 k r x Shut_pane f.panes }) (record a { frames = put3 k r (l.original k r x) Shut a.frames })
+  shut_same : (k r x : ℕ) → p.program.kind k ≡ Free → r < p.ranks → x < l.count k r
+      → Same p l (record f { panes = put3 k r x Shut_pane f.panes }) (record a { frames = put3 k r (l.original k r x) Shut a.frames })
   shut_same k r x fr lr lt = record {
     memories = h.memories;
     variables = h.variables;
@@ -173,15 +195,19 @@ module _ {F : Type 0} (p : Setup F) (l : Layout F) (q : IsLayout p l) (f : Flat 
   }
 
   -- the amount that goes into a partial
-  amount_same : (k e : ℕ) (v : VarCell) (ws : List ℤ) (t : Store) → p.program.kind k ≡ Free → e < elements p.program k → ((c : Cell) (d : ℤ) → among (l.cells k e) c ≡ true → t c ≡ lookup (l.cells k e) ws c d) → (x : ℤ)
+  amount_same : (k e : ℕ) (v : VarCell) (ws : List ℤ) (t : Store) → p.program.kind k ≡ Free → e < elements p.program k
+      → ((c : Cell) (d : ℤ) → among (l.cells k e) c ≡ true → t c ≡ lookup (l.cells k e) ws c d) → (x : ℤ)
       → merge_at (p.reduces (p.program.site k) v) x (lookup (l.cells k e) ws (Variable v) (pos 0)) ≡ merge_at (p.reduces (p.program.site k) v) x (t (Variable v))
   amount_same k e v ws t fr lt m x = by_op (p.reduces (p.program.site k) v) refl
     where
-      by_op : (o : Option Reduction) → p.reduces (p.program.site k) v ≡ o → merge_at (p.reduces (p.program.site k) v) x (lookup (l.cells k e) ws (Variable v) (pos 0)) ≡ merge_at (p.reduces (p.program.site k) v) x (t (Variable v))
+      by_op : (o : Option Reduction) → p.reduces (p.program.site k) v ≡ o
+          → merge_at (p.reduces (p.program.site k) v) x (lookup (l.cells k e) ws (Variable v) (pos 0)) ≡ merge_at
+          (p.reduces (p.program.site k) v) x (t (Variable v))
       by_op None i = ap (λ z. merge_at z x (lookup (l.cells k e) ws (Variable v) (pos 0))) i ∙ ap (λ z. merge_at z x (t (Variable v))) (sym i)
       by_op (Some o) i = ap (merge_at (p.reduces (p.program.site k) v) x) (sym (m (Variable v) (pos 0) (q.reduced_held k e v o fr lt i)))
 
-  module _ (k r x : ℕ) (fr : p.program.kind k ≡ Free) (lr : r < p.ranks) (lt : x < l.count k r) (ws : List ℤ) (t : Store) (m : (c : Cell) (d : ℤ) → among (l.cells k (l.original k r x)) c ≡ true → t c ≡ lookup (l.cells k (l.original k r x)) ws c d) where
+  module _ (k r x : ℕ) (fr : p.program.kind k ≡ Free) (lr : r < p.ranks) (lt : x < l.count k r) (ws : List ℤ) (t : Store)
+      (m : (c : Cell) (d : ℤ) → among (l.cells k (l.original k r x)) c ≡ true → t c ≡ lookup (l.cells k (l.original k r x)) ws c d) where
     abbrev e : ℕ
     e = l.original k r x
 
@@ -189,7 +215,9 @@ module _ {F : Type 0} (p : Setup F) (l : Layout F) (q : IsLayout p l) (f : Flat 
     inside = let o : (l.original k r x < elements p.program k) × (executes p k r (l.original k r x) ≡ true) × (l.local k r (l.original k r x) ≡ x) = q.outside k r x fr lr lt in o.0
 
     abbrev part_flat : VarCell → ℤ
-    part_flat v = cond (p.owner (p.program.set k) e == r) (merge_at (p.reduces (p.program.site k) v) (f.partials r (p.program.site k) v) (lookup (l.cells k e) ws (Variable v) (pos 0))) (f.partials r (p.program.site k) v)
+    part_flat v = cond (p.owner (p.program.set k) e == r)
+        (merge_at (p.reduces (p.program.site k) v) (f.partials r (p.program.site k) v) (lookup (l.cells k e) ws (Variable v) (pos 0)))
+        (f.partials r (p.program.site k) v)
 
     abbrev part_cells : VarCell → ℤ
     part_cells v = cond (p.owner (p.program.set k) e == r) (merge_at (p.reduces (p.program.site k) v) (a.partials r (p.program.site k) v) (t (Variable v))) (a.partials r (p.program.site k) v)
@@ -202,21 +230,26 @@ module _ {F : Type 0} (p : Setup F) (l : Layout F) (q : IsLayout p l) (f : Flat 
     cell_is : (c : DatCell) (v : ℤ) → cond (p.modifies k c.dat) (lookup (l.cells k e) ws (Data c) v) v ≡ cond (is_modified (p.touch k e (Data c))) (t (Data c)) v
     cell_is c v = by_tests (p.modifies k c.dat) (among (l.cells k e) (Data c)) refl (q.modified_is k e c fr inside)
       where
-        by_tests : (x y : Bool) → among (l.cells k e) (Data c) ≡ y → is_modified (p.touch k e (Data c)) ≡ (x && y) → cond x (lookup (l.cells k e) ws (Data c) v) v ≡ cond (is_modified (p.touch k e (Data c))) (t (Data c)) v
+        by_tests : (x y : Bool) → among (l.cells k e) (Data c) ≡ y → is_modified (p.touch k e (Data c)) ≡ (x && y)
+            → cond x (lookup (l.cells k e) ws (Data c) v) v ≡ cond (is_modified (p.touch k e (Data c))) (t (Data c)) v
         by_tests true true i j = sym (m (Data c) v i) ∙ sym (cond-true (is_modified (p.touch k e (Data c))) (t (Data c)) v j)
         by_tests true false i j = lookup_out (l.cells k e) ws (Data c) v i ∙ sym (cond-false (is_modified (p.touch k e (Data c))) (t (Data c)) v j)
         by_tests false y i j = sym (cond-false (is_modified (p.touch k e (Data c))) (t (Data c)) v j)
 
     back_same : Same p l (close_pane p l k r x (l.original k r x) (Windows ws) f) (written_back p k r (l.original k r x) t a)
     back_same = record {
-      memories = changed p l f.memories a.memories r (λ c v. cond (p.modifies k c.dat) (lookup (l.cells k e) ws (Data c) v) v) (λ c. cond (is_modified (p.touch k e (Data c))) (t (Data c)) (a.memories r c)) h.memories lr
+      memories = changed p l f.memories a.memories r (λ c v. cond (p.modifies k c.dat) (lookup (l.cells k e) ws (Data c) v) v)
+          (λ c. cond (is_modified (p.touch k e (Data c))) (t (Data c)) (a.memories r c)) h.memories lr
           (λ i il. cell_is (l.cell_at r i) (a.memories r (l.cell_at r i)));
       variables = h.variables;
       partials = λ r1 s1 v. ⊎_elim
           (λ (y : ((r1 == r) && (s1 == p.program.site k)) ≡ true).
-          ap (λ z. z v) (cond-true ((r1 == r) && (s1 == p.program.site k)) part_flat (f.partials r1 s1) y) ∙ (part_is v ∙ ap (λ z. z v) (sym (cond-true ((r1 == r) && (s1 == p.program.site k)) part_cells (a.partials r1 s1) y))))
+          ap (λ z. z v) (cond-true ((r1 == r) && (s1 == p.program.site k)) part_flat (f.partials r1 s1) y)
+              ∙ (part_is v ∙ ap (λ z. z v) (sym (cond-true ((r1 == r) && (s1 == p.program.site k)) part_cells (a.partials r1 s1) y))))
           (λ (y : ((r1 == r) && (s1 == p.program.site k)) ≡ false).
-          ap (λ z. z v) (cond-false ((r1 == r) && (s1 == p.program.site k)) part_flat (f.partials r1 s1) y) ∙ (h.partials r1 s1 v ∙ ap (λ z. z v) (sym (cond-false ((r1 == r) && (s1 == p.program.site k)) part_cells (a.partials r1 s1) y))))
+          ap (λ z. z v) (cond-false ((r1 == r) && (s1 == p.program.site k)) part_flat (f.partials r1 s1) y)
+              ∙ (h.partials r1 s1 v ∙ ap (λ z. z v)
+              (sym (cond-false ((r1 == r) && (s1 == p.program.site k)) part_cells (a.partials r1 s1) y))))
           (cases_Bool ((r1 == r) && (s1 == p.program.site k)));
       mail = h.mail;
       panes = panes_put k r x Shut_pane Shut fr lr lt tt;
@@ -225,7 +258,8 @@ module _ {F : Type 0} (p : Setup F) (l : Layout F) (q : IsLayout p l) (f : Flat 
       stop = h.stop;
     }
 
-  closed_same : (k r x : ℕ) → p.program.kind k ≡ Free → r < p.ranks → x < l.count k r → (b : Pane) (c : Frame) → PaneSame l k (l.original k r x) b c → Same p l (close_pane p l k r x (l.original k r x) b f) (closed p k r (l.original k r x) c a)
+  closed_same : (k r x : ℕ) → p.program.kind k ≡ Free → r < p.ranks → x < l.count k r → (b : Pane) (c : Frame)
+      → PaneSame l k (l.original k r x) b c → Same p l (close_pane p l k r x (l.original k r x) b f) (closed p k r (l.original k r x) c a)
   closed_same k r x fr lr lt Shut_pane Shut m = shut_same k r x fr lr lt
   closed_same k r x fr lr lt Broken_pane Broken m = shut_same k r x fr lr lt
   closed_same k r x fr lr lt Shut_pane Broken m = absurd m

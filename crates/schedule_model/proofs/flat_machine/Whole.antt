@@ -17,7 +17,9 @@ use Rattle.schedule_model.proofs.flat_machine.Steps.{send_goes, recv_goes, begin
 use Rattle.schedule_model.proofs.flat_machine.Joins.{Owners, join_goes}
 
 owners : {F : Type 0} (p : Setup F) → Lawful p → Owners p
-owners p w c = cond_both (in_set p c) (p.owner (p.program.set_of c.dat) c.element) 0 (λ x. x < p.ranks) (λ t. w.items.owners (p.program.set_of c.dat) c.element (ltb-true c.element (p.program.size (p.program.set_of c.dat)) t)) (λ t. w.items.some_rank)
+owners p w c = cond_both (in_set p c) (p.owner (p.program.set_of c.dat) c.element) 0 (λ x. x < p.ranks)
+    (λ t. w.items.owners (p.program.set_of c.dat) c.element (ltb-true c.element (p.program.size (p.program.set_of c.dat)) t))
+    (λ t. w.items.some_rank)
 
 module _ {F : Type 0} (p : Setup F) (w : Lawful p) (l : Layout F) (q : IsLayout p l) where
   step_same : (f : Flat F) (a : State F) → a.stop ≡ None → Same p l f a → (s : Step) → IsStep (by_place p l) s → Same p l (flat_step p l s f) (step p (to_element l s) a)
@@ -74,10 +76,13 @@ module _ {F : Type 0} (p : Setup F) (w : Lawful p) (l : Layout F) (q : IsLayout 
   agrees (Stopped x t o) f a h g = (h.stop ∙ g.0, h.output ∙ g.1)
 
   -- from the run on cells
-  from_cells : (f : Flat F) → StartsFlat p l f → (steps : List Step) → Accepted (by_place p l) steps → Agrees p (sequential p.program) (machine p (map (to_element l) steps)) → AgreesFlat p l (sequential p.program) (flat_from p l steps f)
+  from_cells : (f : Flat F) → StartsFlat p l f → (steps : List Step) → Accepted (by_place p l) steps
+      → Agrees p (sequential p.program) (machine p (map (to_element l) steps))
+      → AgreesFlat p l (sequential p.program) (flat_from p l steps f)
   from_cells f start steps acc cells =
       agrees (sequential p.program) (flat_from p l steps f) (machine p (map (to_element l) steps)) (from_same steps f (start_state p) (start_same f start) (planned steps acc steps [] refl)) cells
 
 pub on_buffers : {F : Type 0} → ((p : Setup F) → Lawful p → Coloured p → (l : List Step) → Accepted (outline p) l → Agrees p (sequential p.program) (machine p l))
-    → (p : Setup F) → Lawful p → Coloured p → (l : Layout F) → IsLayout p l → (f : Flat F) → StartsFlat p l f → (steps : List Step) → Accepted (by_place p l) steps → AgreesFlat p l (sequential p.program) (flat_from p l steps f)
+    → (p : Setup F) → Lawful p → Coloured p → (l : Layout F) → IsLayout p l → (f : Flat F) → StartsFlat p l f → (steps : List Step)
+        → Accepted (by_place p l) steps → AgreesFlat p l (sequential p.program) (flat_from p l steps f)
 on_buffers cells p w free l q f start steps acc = from_cells p w l q f start steps acc (cells p w free (map (to_element l) steps) (accepted_elements p l q steps acc))

@@ -30,7 +30,8 @@ module _ {F : Type 0} (p : Setup F) (f : LoopParts p) where
   -- of what kind it is
   data Shape (k e : ℕ) (c : DatCell) (a : ℕ) : Type 0 where
     direct : (x : Access) → arg k a ≡ Direct c.dat x → p.program.set_of c.dat ≡ p.program.set k → c.element ≡ e → Shape k e c a
-    indirect : (m i : ℕ) (x : Access) → arg k a ≡ Indirect c.dat m i x → m < f.maps → f.from_set m ≡ p.program.set k → f.to_set m ≡ p.program.set_of c.dat → i < f.arity m → c.element ≡ f.entry m e i → Shape k e c a
+    indirect : (m i : ℕ) (x : Access) → arg k a ≡ Indirect c.dat m i x → m < f.maps → f.from_set m ≡ p.program.set k
+        → f.to_set m ≡ p.program.set_of c.dat → i < f.arity m → c.element ≡ f.entry m e i → Shape k e c a
 
   shape : (k e : ℕ) (c : DatCell) → p.program.kind k ≡ Free → (r : Reached k e c) → Shape k e c r.by
   shape k e c fr r = at (arg k r.by) refl r.on r.hits
@@ -47,7 +48,8 @@ module _ {F : Type 0} (p : Setup F) (f : LoopParts p) where
           indirect m j x i2 s.0 s.1 s.2 s.3 (sym hits)
       at (Global v x) i on hits = absurd (false≢true on)
 
-  modified_reached : (k e : ℕ) (c : DatCell) → p.program.kind k ≡ Free → e < elements p.program k → is_modified (p.touch k e (Data c)) ≡ true → (r : Reached k e c) × (modifying (access_of (arg k r.by)) ≡ true)
+  modified_reached : (k e : ℕ) (c : DatCell) → p.program.kind k ≡ Free → e < elements p.program k
+      → is_modified (p.touch k e (Data c)) ≡ true → (r : Reached k e c) × (modifying (access_of (arg k r.by)) ≡ true)
   modified_reached k e c fr lt h =
       let r : (a : ℕ) × (a < args k) × (reaches f.entry f.dim f.width e (arg k a) (Data c) ≡ true) × (modifying (access_of (arg k a)) ≡ true) =
       modified_by f.entry f.dim f.width (f.arg (p.program.site k)) e (Data c) (args k) (ap is_modified (sym (f.touch_is k e c fr lt)) ∙ h) in
@@ -63,7 +65,8 @@ module _ {F : Type 0} (p : Setup F) (f : LoopParts p) where
 
   -- the dat of a modified cell has arguments of one reduction, or direct ones
   abbrev OneKind : ℕ → ℕ → Type 0
-  OneKind k d = ((o : Reduction) × ((a : ℕ) → a < args k → is_on d (arg k a) ≡ true → access_of (arg k a) ≡ OpReduce o)) ⊎ ((a : ℕ) → a < args k → is_on d (arg k a) ≡ true → is_direct (arg k a) ≡ true)
+  OneKind k d = ((o : Reduction) × ((a : ℕ) → a < args k → is_on d (arg k a) ≡ true → access_of (arg k a) ≡ OpReduce o))
+      ⊎ ((a : ℕ) → a < args k → is_on d (arg k a) ≡ true → is_direct (arg k a) ≡ true)
 
   one_kind : (k e : ℕ) (c : DatCell) → p.program.kind k ≡ Free → (r : Reached k e c) → modifying (access_of (arg k r.by)) ≡ true → OneKind k c.dat
   one_kind k e c fr r m = f.free_is k r.by c.dat fr r.one_of r.on m
@@ -119,7 +122,9 @@ module _ {F : Type 0} (p : Setup F) (f : LoopParts p) where
   -- what an element reaches is of the dat's set
   in_range : (k e : ℕ) (c : DatCell) (a : ℕ) → e < elements p.program k → Shape k e c a → c.element < p.program.size (p.program.set_of c.dat)
   in_range k e c a lt (direct x i s h) = subst (λ z. c.element < p.program.size z) (sym s) (subst (λ z. z < p.program.size (p.program.set k)) (sym h) lt)
-  in_range k e c a lt (indirect m j x i lm from to lj h) = subst (λ z. c.element < p.program.size z) to (subst (λ z. z < p.program.size (f.to_set m)) (sym h) (f.in_range m e j lm (subst (λ z. e < p.program.size z) (sym from) lt) lj))
+  in_range k e c a lt (indirect m j x i lm from to lj h) =
+      subst (λ z. c.element < p.program.size z) to
+      (subst (λ z. z < p.program.size (f.to_set m)) (sym h) (f.in_range m e j lm (subst (λ z. e < p.program.size z) (sym from) lt) lj))
 
   direct_owner : (k e : ℕ) (c : DatCell) → p.program.set_of c.dat ≡ p.program.set k → c.element ≡ e → p.owner (p.program.set_of c.dat) c.element ≡ p.owner (p.program.set k) e
   direct_owner k e c s h = ap (λ z. p.owner z c.element) s ∙ ap (p.owner (p.program.set k)) h
@@ -128,13 +133,15 @@ module _ {F : Type 0} (p : Setup F) (f : LoopParts p) where
   target_owner c m e i to h = ap (λ z. p.owner z c.element) (sym to) ∙ ap (p.owner (f.to_set m)) h
 
   -- an indirect argument that modifies reduces
-  indirect_reduces : (k e : ℕ) (c : DatCell) (m i : ℕ) (x : Access) → p.program.kind k ≡ Free → (r : Reached k e c) → modifying (access_of (arg k r.by)) ≡ true → arg k r.by ≡ Indirect c.dat m i x → (o : Reduction) × (x ≡ OpReduce o)
+  indirect_reduces : (k e : ℕ) (c : DatCell) (m i : ℕ) (x : Access) → p.program.kind k ≡ Free → (r : Reached k e c)
+      → modifying (access_of (arg k r.by)) ≡ true → arg k r.by ≡ Indirect c.dat m i x → (o : Reduction) × (x ≡ OpReduce o)
   indirect_reduces k e c m i x fr r md at = ⊎_elim
       (λ (one : (o : Reduction) × ((a : ℕ) → a < args k → is_on c.dat (arg k a) ≡ true → access_of (arg k a) ≡ OpReduce o)). (one.0, ap access_of (sym at) ∙ one.1 r.by r.one_of r.on))
       (λ (dir : (a : ℕ) → a < args k → is_on c.dat (arg k a) ≡ true → is_direct (arg k a) ≡ true). absurd (false≢true (ap is_direct (sym at) ∙ dir r.by r.one_of r.on)))
       (one_kind k e c fr r md)
 
-  covers : (k e : ℕ) (c : DatCell) → p.program.kind k ≡ Free → e < elements p.program k → is_modified (p.touch k e (Data c)) ≡ true → p.owner (p.program.set_of c.dat) c.element < p.ranks → executes p k (owner_of p c) e ≡ true
+  covers : (k e : ℕ) (c : DatCell) → p.program.kind k ≡ Free → e < elements p.program k → is_modified (p.touch k e (Data c)) ≡ true
+      → p.owner (p.program.set_of c.dat) c.element < p.ranks → executes p k (owner_of p c) e ≡ true
   covers k e c fr lt h lr =
       let r : (r : Reached k e c) × (modifying (access_of (arg k r.by)) ≡ true) = modified_reached k e c fr lt h in
       at r.0 r.1 (shape k e c fr r.0)
@@ -147,8 +154,13 @@ module _ {F : Type 0} (p : Setup F) (f : LoopParts p) where
           let o : (o : Reduction) × (x ≡ OpReduce o) = indirect_reduces k e c m j x fr r md i in
           let sc : p.scatters k ≡ true = f.scatters_is k r.by c.dat m j o.0 fr r.one_of (i ∙ ap (Indirect c.dat m j) o.1) in
           subst (λ z. executes p k z e ≡ true) (sym there) (⊎_elim
-          (λ (own : p.owner (p.program.set k) e ≡ p.owner (p.program.set_of c.dat) c.element). or_left (p.owner (p.program.set k) e == p.owner (p.program.set_of c.dat) c.element) (p.scatters k && p.import_execute (p.owner (p.program.set_of c.dat) c.element) (p.program.set k) e) (eq-eqb (p.owner (p.program.set k) e) (p.owner (p.program.set_of c.dat) c.element) own))
-          (λ (ne : p.owner (p.program.set k) e ≡ p.owner (p.program.set_of c.dat) c.element → ⊥). or_right (p.owner (p.program.set k) e == p.owner (p.program.set_of c.dat) c.element) (p.scatters k && p.import_execute (p.owner (p.program.set_of c.dat) c.element) (p.program.set k) e)
+          (λ (own : p.owner (p.program.set k) e ≡ p.owner (p.program.set_of c.dat) c.element). or_left
+              (p.owner (p.program.set k) e == p.owner (p.program.set_of c.dat) c.element)
+              (p.scatters k && p.import_execute (p.owner (p.program.set_of c.dat) c.element) (p.program.set k) e)
+              (eq-eqb (p.owner (p.program.set k) e) (p.owner (p.program.set_of c.dat) c.element) own))
+          (λ (ne : p.owner (p.program.set k) e ≡ p.owner (p.program.set_of c.dat) c.element → ⊥). or_right
+              (p.owner (p.program.set k) e == p.owner (p.program.set_of c.dat) c.element)
+              (p.scatters k && p.import_execute (p.owner (p.program.set_of c.dat) c.element) (p.program.set k) e)
           (and_from (p.scatters k) (p.import_execute (p.owner (p.program.set_of c.dat) c.element) (p.program.set k) e) sc
           (f.execute_if (p.owner (p.program.set_of c.dat) c.element) (p.program.set k) e m j lr lt ne lm from lj (sym (target_owner c m e j to g)))))
           (cases_eq (p.owner (p.program.set k) e) (p.owner (p.program.set_of c.dat) c.element)))
@@ -159,7 +171,8 @@ module _ {F : Type 0} (p : Setup F) (f : LoopParts p) where
   core_owns k r e c a lr lt co (indirect m j x i lm from to lj g) =
       owner_is c (in_range k e c a lt (indirect m j x i lm from to lj g)) ∙ (target_owner c m e j to g ∙ f.core_targets r (p.program.set k) e m j lr lt co lm from lj)
 
-  core_modifies : (k r e : ℕ) (c : DatCell) → p.program.kind k ≡ Free → r < p.ranks → e < elements p.program k → executes p k r e ≡ true → p.core r (p.program.set k) e ≡ true → is_modified (p.touch k e (Data c)) ≡ true → owner_of p c ≡ r
+  core_modifies : (k r e : ℕ) (c : DatCell) → p.program.kind k ≡ Free → r < p.ranks → e < elements p.program k → executes p k r e ≡ true
+      → p.core r (p.program.set k) e ≡ true → is_modified (p.touch k e (Data c)) ≡ true → owner_of p c ≡ r
   core_modifies k r e c fr lr lt ex co h =
       let a : (a : Reached k e c) × (modifying (access_of (arg k a.by)) ≡ true) = modified_reached k e c fr lt h in
       core_owns k r e c a.0.by lr lt co (shape k e c fr a.0)
@@ -171,7 +184,8 @@ module _ {F : Type 0} (p : Setup F) (f : LoopParts p) where
       (or_cases (p.owner (p.program.set k) e == r) (p.scatters k && p.import_execute r (p.program.set k) e) h)
 
   -- an indirect argument that reads is OP_READ
-  indirect_reads : (k e : ℕ) (c : DatCell) (m i : ℕ) (x : Access) → p.program.kind k ≡ Free → (r : Reached k e c) → reading (access_of (arg k r.by)) ≡ true → arg k r.by ≡ Indirect c.dat m i x → x ≡ OpRead
+  indirect_reads : (k e : ℕ) (c : DatCell) (m i : ℕ) (x : Access) → p.program.kind k ≡ Free → (r : Reached k e c)
+      → reading (access_of (arg k r.by)) ≡ true → arg k r.by ≡ Indirect c.dat m i x → x ≡ OpRead
   indirect_reads k e c m i x fr r rd at = by_access x refl
     where
       is_x : access_of (arg k r.by) ≡ x
@@ -185,8 +199,12 @@ module _ {F : Type 0} (p : Setup F) (f : LoopParts p) where
           let o : (o : Reduction) × (x ≡ OpReduce o) = indirect_reduces k e c m i x fr r (ap modifying (is_x ∙ j)) at in
           let z : OpRw ≡ OpReduce o.0 = sym j ∙ o.1 in cc
 
-  copy : (r : ℕ) (c : DatCell) → c.element < p.program.size (p.program.set_of c.dat) → (p.import_execute r (p.program.set_of c.dat) c.element ≡ true) ⊎ (p.import_nonexecute r (p.program.set_of c.dat) c.element ≡ true) → has_copy p r c ≡ true
-  copy r c lt h = and_from (in_set p c) (p.import_execute r (p.program.set_of c.dat) c.element || p.import_nonexecute r (p.program.set_of c.dat) c.element) (lt-ltb c.element (p.program.size (p.program.set_of c.dat)) lt)
+  copy : (r : ℕ) (c : DatCell) → c.element < p.program.size (p.program.set_of c.dat)
+      → (p.import_execute r (p.program.set_of c.dat) c.element ≡ true) ⊎ (p.import_nonexecute r (p.program.set_of c.dat) c.element ≡ true)
+      → has_copy p r c ≡ true
+  copy r c lt h = and_from (in_set p c)
+      (p.import_execute r (p.program.set_of c.dat) c.element || p.import_nonexecute r (p.program.set_of c.dat) c.element)
+      (lt-ltb c.element (p.program.size (p.program.set_of c.dat)) lt)
       (⊎_elim
       (λ t. or_left (p.import_execute r (p.program.set_of c.dat) c.element) (p.import_nonexecute r (p.program.set_of c.dat) c.element) t)
       (λ t. or_right (p.import_execute r (p.program.set_of c.dat) c.element) (p.import_nonexecute r (p.program.set_of c.dat) c.element) t)
@@ -201,7 +219,8 @@ module _ {F : Type 0} (p : Setup F) (f : LoopParts p) where
       (λ (other : owner_of p c ≡ r → ⊥). inr (at a.0 a.1 (shape k e c fr a.0) other))
       (cases_eq (owner_of p c) r)
     where
-      at : (a : Reached k e c) → reading (access_of (arg k a.by)) ≡ true → Shape k e c a.by → (owner_of p c ≡ r → ⊥) → (has_copy p r c ≡ true) × (p.needs k c.dat ≡ true) × (p.core r (p.program.set k) e ≡ false)
+      at : (a : Reached k e c) → reading (access_of (arg k a.by)) ≡ true → Shape k e c a.by → (owner_of p c ≡ r → ⊥)
+          → (has_copy p r c ≡ true) × (p.needs k c.dat ≡ true) × (p.core r (p.program.set k) e ≡ false)
       at a rd (direct x i s g) other =
           let inside : c.element < p.program.size (p.program.set_of c.dat) = in_range k e c a.by lt (direct x i s g) in
           let exec : (p.scatters k ≡ true) × (p.import_execute r (p.program.set k) e ≡ true) = ⊎_elim
@@ -219,26 +238,36 @@ module _ {F : Type 0} (p : Setup F) (f : LoopParts p) where
                 (⊎_elim
                 (λ t. inl t)
                 (λ t. inr (f.nonexecute_if r m e j lr lm lj (subst (λ z. e < p.program.size z) (sym from) lt)
-                (⊎_elim (λ own. inl (ap (λ z. p.owner z e) from ∙ own)) (λ (u : (p.scatters k ≡ true) × (p.import_execute r (p.program.set k) e ≡ true)). inr (ap (λ z. p.import_execute r z e) from ∙ u.1)) (executed k r e ex)) away t))
+                (⊎_elim (λ own. inl (ap (λ z. p.owner z e) from ∙ own))
+                    (λ (u : (p.scatters k ≡ true) × (p.import_execute r (p.program.set k) e ≡ true)). inr
+                    (ap (λ z. p.import_execute r z e) from ∙ u.1)) (executed k r e ex)) away t))
                 (cases_Bool (p.import_execute r (f.to_set m) (f.entry m e j)))))),
             f.needs_indirect k a.by c.dat m j fr a.one_of reads,
             false_from_ne_true (p.core r (p.program.set k) e) (λ co. other (core_owns k r e c a.by lr lt co (indirect m j x i lm from to lj g))),
           )
 
-  imported : (r : ℕ) (c : DatCell) → has_copy p r c ≡ true → (c.element < p.program.size (p.program.set_of c.dat)) × ((p.import_execute r (p.program.set_of c.dat) c.element ≡ true) ⊎ (p.import_nonexecute r (p.program.set_of c.dat) c.element ≡ true))
+  imported : (r : ℕ) (c : DatCell) → has_copy p r c ≡ true → (c.element < p.program.size (p.program.set_of c.dat))
+      × ((p.import_execute r (p.program.set_of c.dat) c.element ≡ true) ⊎ (p.import_nonexecute r (p.program.set_of c.dat) c.element ≡ true))
   imported r c h =
-      let a : (in_set p c ≡ true) × ((p.import_execute r (p.program.set_of c.dat) c.element || p.import_nonexecute r (p.program.set_of c.dat) c.element) ≡ true) = and_parts (in_set p c) (p.import_execute r (p.program.set_of c.dat) c.element || p.import_nonexecute r (p.program.set_of c.dat) c.element) h in
-      (ltb-true c.element (p.program.size (p.program.set_of c.dat)) a.0, or_cases (p.import_execute r (p.program.set_of c.dat) c.element) (p.import_nonexecute r (p.program.set_of c.dat) c.element) a.1)
+      let a : (in_set p c ≡ true) × ((p.import_execute r (p.program.set_of c.dat) c.element || p.import_nonexecute r
+          (p.program.set_of c.dat) c.element) ≡ true) = and_parts (in_set p c)
+          (p.import_execute r (p.program.set_of c.dat) c.element || p.import_nonexecute r (p.program.set_of c.dat) c.element) h in
+      (ltb-true c.element (p.program.size (p.program.set_of c.dat)) a.0,
+          or_cases (p.import_execute r (p.program.set_of c.dat) c.element) (p.import_nonexecute r (p.program.set_of c.dat) c.element) a.1)
 
   imports_other : (r : ℕ) (c : DatCell) → r < p.ranks → has_copy p r c ≡ true → owner_of p c ≡ r → ⊥
   imports_other r c lr h own =
-      let a : (c.element < p.program.size (p.program.set_of c.dat)) × ((p.import_execute r (p.program.set_of c.dat) c.element ≡ true) ⊎ (p.import_nonexecute r (p.program.set_of c.dat) c.element ≡ true)) = imported r c h in
+      let a : (c.element < p.program.size (p.program.set_of c.dat))
+          × ((p.import_execute r (p.program.set_of c.dat) c.element ≡ true)
+          ⊎ (p.import_nonexecute r (p.program.set_of c.dat) c.element ≡ true)) = imported r c h in
       let mine : p.owner (p.program.set_of c.dat) c.element ≡ r = sym (owner_is c a.0) ∙ own in
       ⊎_elim (λ t. f.execute_other r (p.program.set_of c.dat) c.element lr a.0 t mine) (λ t. f.nonexecute_other r (p.program.set_of c.dat) c.element lr a.0 t mine) a.1
 
   linked : (k r : ℕ) (c : DatCell) → p.program.kind k ≡ Free → r < p.ranks → has_copy p r c ≡ true → p.exchanged k c.dat ≡ true → p.sends k (owner_of p c) r ≡ true
   linked k r c fr lr h x =
-      let a : (c.element < p.program.size (p.program.set_of c.dat)) × ((p.import_execute r (p.program.set_of c.dat) c.element ≡ true) ⊎ (p.import_nonexecute r (p.program.set_of c.dat) c.element ≡ true)) = imported r c h in
+      let a : (c.element < p.program.size (p.program.set_of c.dat))
+          × ((p.import_execute r (p.program.set_of c.dat) c.element ≡ true)
+          ⊎ (p.import_nonexecute r (p.program.set_of c.dat) c.element ≡ true)) = imported r c h in
       ap (λ s. p.sends k s r) (owner_is c a.0) ∙ f.sent k r c.dat c.element fr lr x a.0 a.1
 
   pub colours : Coloured p
@@ -247,7 +276,8 @@ module _ {F : Type 0} (p : Setup F) (f : LoopParts p) where
       let t : (t : Reached k b c) × (modifying (access_of (arg k t.by)) ≡ true) = modified_reached k b c fr lb wb in
       ⊎_elim
       (λ (one : (o : Reduction) × ((x : ℕ) → x < args k → is_on c.dat (arg k x) ≡ true → access_of (arg k x) ≡ OpReduce o)).
-      f.coloured k r a b s.0.by t.0.by c.dat fr lr la lb xa xb ne s.0.one_of t.0.one_of s.0.on t.0.on one.0 one.0 (one.1 s.0.by s.0.one_of s.0.on) (one.1 t.0.by t.0.one_of t.0.on) (s.0.hits ∙ sym t.0.hits))
+      f.coloured k r a b s.0.by t.0.by c.dat fr lr la lb xa xb ne s.0.one_of t.0.one_of s.0.on t.0.on one.0 one.0
+          (one.1 s.0.by s.0.one_of s.0.on) (one.1 t.0.by t.0.one_of t.0.on) (s.0.hits ∙ sym t.0.hits))
       (λ (dir : (x : ℕ) → x < args k → is_on c.dat (arg k x) ≡ true → is_direct (arg k x) ≡ true).
       absurd (ne (sym (direct_element k a c fr s.0 (dir s.0.by s.0.one_of s.0.on)) ∙ direct_element k b c fr t.0 (dir t.0.by t.0.one_of t.0.on))))
       (one_kind k a c fr s.0 s.1)

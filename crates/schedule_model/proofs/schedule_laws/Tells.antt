@@ -178,7 +178,8 @@ module _ (entry : Entries) (dim width : ℕ → ℕ) (arg : ℕ → Argument) (e
   pub reader : (n a : ℕ) → a < n → reach a ≡ true → reading (access_of (arg a)) ≡ true → is_read (C n) ≡ true
   reader zero a lt r h = absurd (omega arith)
   reader (suc n) a lt r h = ⊎_elim
-      (λ (i : a ≡ n). ap is_read (cond-true (reach n) (joined (C n) (access_of (arg n))) (C n) (ap reach (sym i) ∙ r)) ∙ read_joins (C n) (access_of (arg n)) (ap (λ z. reading (access_of (arg z))) (sym i) ∙ h))
+      (λ (i : a ≡ n). ap is_read (cond-true (reach n) (joined (C n) (access_of (arg n))) (C n) (ap reach (sym i) ∙ r))
+          ∙ read_joins (C n) (access_of (arg n)) (ap (λ z. reading (access_of (arg z))) (sym i) ∙ h))
       (λ (ne : a ≡ n → ⊥).
       let before : is_read (C n) ≡ true = reader n a (omega arith) r h in
       ⊎_elim

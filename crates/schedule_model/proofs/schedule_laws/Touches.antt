@@ -64,7 +64,8 @@ module _ (entry : Entries) (dim width : ℕ → ℕ) (arg : ℕ → Argument) (e
       (λ u. let r : (a : ℕ) × (a < n) × (reach a ≡ true) × (reading (access_of (arg a)) ≡ true) = read_by n u in (r.0, (let l : r.0 < n = r.1 in omega arith), r.2, r.3))
       (λ u. (n, omega arith, t, u))
       (read_joined (C n) (access_of (arg n)) (ap is_read (sym (touch_more n t)) ∙ h)))
-      (λ (t : reach n ≡ false). let r : (a : ℕ) × (a < n) × (reach a ≡ true) × (reading (access_of (arg a)) ≡ true) = read_by n (ap is_read (sym (touch_same n t)) ∙ h) in (r.0, (let l : r.0 < n = r.1 in omega arith), r.2, r.3))
+      (λ (t : reach n ≡ false). let r : (a : ℕ) × (a < n) × (reach a ≡ true) × (reading (access_of (arg a)) ≡ true) =
+          read_by n (ap is_read (sym (touch_same n t)) ∙ h) in (r.0, (let l : r.0 < n = r.1 in omega arith), r.2, r.3))
       (cases_Bool (reach n))
 
   pub modified_by : (n : ℕ) → is_modified (C n) ≡ true → (a : ℕ) × (a < n) × (reach a ≡ true) × (modifying (access_of (arg a)) ≡ true)
@@ -74,7 +75,8 @@ module _ (entry : Entries) (dim width : ℕ → ℕ) (arg : ℕ → Argument) (e
       (λ u. let r : (a : ℕ) × (a < n) × (reach a ≡ true) × (modifying (access_of (arg a)) ≡ true) = modified_by n u in (r.0, (let l : r.0 < n = r.1 in omega arith), r.2, r.3))
       (λ u. (n, omega arith, t, u))
       (modified_joined (C n) (access_of (arg n)) (ap is_modified (sym (touch_more n t)) ∙ h)))
-      (λ (t : reach n ≡ false). let r : (a : ℕ) × (a < n) × (reach a ≡ true) × (modifying (access_of (arg a)) ≡ true) = modified_by n (ap is_modified (sym (touch_same n t)) ∙ h) in (r.0, (let l : r.0 < n = r.1 in omega arith), r.2, r.3))
+      (λ (t : reach n ≡ false). let r : (a : ℕ) × (a < n) × (reach a ≡ true) × (modifying (access_of (arg a)) ≡ true) =
+          modified_by n (ap is_modified (sym (touch_same n t)) ∙ h) in (r.0, (let l : r.0 < n = r.1 in omega arith), r.2, r.3))
       (cases_Bool (reach n))
 
   -- no argument reaches the cell
@@ -125,7 +127,8 @@ reaches_named entry dim width e (Direct d x) v h = absurd (false≢true h)
 reaches_named entry dim width e (Indirect d m i x) v h = absurd (false≢true h)
 reaches_named entry dim width e (Global u x) v h = (x, ap (λ z. Global z x) (eqb-true u v.variable (and_parts (u == v.variable) (nat_lt v.component (width u)) h).0))
 
-pub named_reaches : (entry : Entries) (dim width : ℕ → ℕ) (e : ℕ) (x : Argument) (v : VarCell) (y : Access) → x ≡ Global v.variable y → v.component < width v.variable → reaches entry dim width e x (Variable v) ≡ true
+pub named_reaches : (entry : Entries) (dim width : ℕ → ℕ) (e : ℕ) (x : Argument) (v : VarCell) (y : Access) → x ≡ Global v.variable y
+    → v.component < width v.variable → reaches entry dim width e x (Variable v) ≡ true
 named_reaches entry dim width e x v y i lt = subst (λ z. reaches entry dim width e z (Variable v) ≡ true) (sym i)
     (and_from (v.variable == v.variable) (nat_lt v.component (width v.variable)) (eq-eqb v.variable v.variable refl) (lt-ltb v.component (width v.variable) lt))
 
@@ -161,25 +164,35 @@ joined_keeps k OpWrite h = joined_modifies k OpWrite refl
 joined_keeps k OpRw h = refl
 joined_keeps k (OpReduce o) h = joined_modifies k (OpReduce o) refl
 
-pub modified_if : (entry : Entries) (dim width : ℕ → ℕ) (arg : ℕ → Argument) (e : ℕ) (c : Cell) (n a : ℕ) → a < n → reaches entry dim width e (arg a) c ≡ true → modifying (access_of (arg a)) ≡ true → is_modified (touch_by entry dim width arg n e c) ≡ true
+pub modified_if : (entry : Entries) (dim width : ℕ → ℕ) (arg : ℕ → Argument) (e : ℕ) (c : Cell) (n a : ℕ) → a < n
+    → reaches entry dim width e (arg a) c ≡ true → modifying (access_of (arg a)) ≡ true
+    → is_modified (touch_by entry dim width arg n e c) ≡ true
 modified_if entry dim width arg e c zero a lt r m = absurd (omega arith)
 modified_if entry dim width arg e c (suc n) a lt r m = ⊎_elim
     (λ (i : a ≡ n).
-    ap is_modified (cond-true (reaches entry dim width e (arg n) c) (joined (touch_by entry dim width arg n e c) (access_of (arg n))) (touch_by entry dim width arg n e c) (ap (λ z. reaches entry dim width e (arg z) c) (sym i) ∙ r))
+    ap is_modified (cond-true (reaches entry dim width e (arg n) c) (joined (touch_by entry dim width arg n e c) (access_of (arg n)))
+        (touch_by entry dim width arg n e c) (ap (λ z. reaches entry dim width e (arg z) c) (sym i) ∙ r))
     ∙ joined_modifies (touch_by entry dim width arg n e c) (access_of (arg n)) (ap (λ z. modifying (access_of (arg z))) (sym i) ∙ m))
     (λ (ne : a ≡ n → ⊥).
     let before : is_modified (touch_by entry dim width arg n e c) ≡ true = modified_if entry dim width arg e c n a (omega arith) r m in
     ⊎_elim
-    (λ (t : reaches entry dim width e (arg n) c ≡ true). ap is_modified (cond-true (reaches entry dim width e (arg n) c) (joined (touch_by entry dim width arg n e c) (access_of (arg n))) (touch_by entry dim width arg n e c) t) ∙ joined_keeps (touch_by entry dim width arg n e c) (access_of (arg n)) before)
-    (λ (t : reaches entry dim width e (arg n) c ≡ false). ap is_modified (cond-false (reaches entry dim width e (arg n) c) (joined (touch_by entry dim width arg n e c) (access_of (arg n))) (touch_by entry dim width arg n e c) t) ∙ before)
+    (λ (t : reaches entry dim width e (arg n) c ≡ true). ap is_modified
+        (cond-true (reaches entry dim width e (arg n) c) (joined (touch_by entry dim width arg n e c) (access_of (arg n)))
+        (touch_by entry dim width arg n e c) t) ∙ joined_keeps (touch_by entry dim width arg n e c) (access_of (arg n)) before)
+    (λ (t : reaches entry dim width e (arg n) c ≡ false). ap is_modified
+        (cond-false (reaches entry dim width e (arg n) c) (joined (touch_by entry dim width arg n e c) (access_of (arg n)))
+        (touch_by entry dim width arg n e c) t) ∙ before)
     (cases_Bool (reaches entry dim width e (arg n) c)))
     (cases_eq a n)
 
 -- direct arguments on one dat reach the same cells
-pub direct_reaches : (entry : Entries) (dim width : ℕ → ℕ) (e : ℕ) (x y : Argument) (c : DatCell) → reaches entry dim width e x (Data c) ≡ true → is_direct x ≡ true → is_on c.dat y ≡ true → is_direct y ≡ true → reaches entry dim width e y (Data c) ≡ true
+pub direct_reaches : (entry : Entries) (dim width : ℕ → ℕ) (e : ℕ) (x y : Argument) (c : DatCell)
+    → reaches entry dim width e x (Data c) ≡ true → is_direct x ≡ true → is_on c.dat y ≡ true → is_direct y ≡ true
+    → reaches entry dim width e y (Data c) ≡ true
 direct_reaches entry dim width e (Direct d x) (Direct f y) c h i on j =
     let a : ((d == c.dat) ≡ true) × (((e == c.element) && nat_lt c.component (dim d)) ≡ true) = and_parts (d == c.dat) ((e == c.element) && nat_lt c.component (dim d)) h in
-    and_from (f == c.dat) ((e == c.element) && nat_lt c.component (dim f)) on (subst (λ z. ((e == c.element) && nat_lt c.component (dim z)) ≡ true) (eqb-true d c.dat a.0 ∙ sym (eqb-true f c.dat on)) a.1)
+    and_from (f == c.dat) ((e == c.element) && nat_lt c.component (dim f)) on
+        (subst (λ z. ((e == c.element) && nat_lt c.component (dim z)) ≡ true) (eqb-true d c.dat a.0 ∙ sym (eqb-true f c.dat on)) a.1)
 direct_reaches entry dim width e (Direct d x) (Indirect f m k y) c h i on j = absurd (false≢true j)
 direct_reaches entry dim width e (Direct d x) (Global v y) c h i on j = absurd (false≢true j)
 direct_reaches entry dim width e (Indirect d m k x) y c h i on j = absurd (false≢true i)

@@ -36,7 +36,9 @@ module _ {M : Type 0} (bytes : List ℕ) (result : Result M ScheduleTextRefusal)
   pub found : IfOk result (λ m. Spells bytes (view m) × (length (view m) ≤ SCHEDULE_STEPS))
   found = go result (exact.found step finish Magic Stands refl stands_on stands_through OutOfMemory bytes result view answers)
     where
-      go : (r : Result M ScheduleTextRefusal) → IfOk r (λ m. (q : State) × Stands (words 1 bytes) q × (finish q (last_line 1 (words 1 bytes)) ≡ Ok (view m))) → IfOk r (λ m. Spells bytes (view m) × (length (view m) ≤ SCHEDULE_STEPS))
+      go : (r : Result M ScheduleTextRefusal) → IfOk r
+          (λ m. (q : State) × Stands (words 1 bytes) q × (finish q (last_line 1 (words 1 bytes)) ≡ Ok (view m)))
+          → IfOk r (λ m. Spells bytes (view m) × (length (view m) ≤ SCHEDULE_STEPS))
       go (Ok m) f = end_spells bytes (view m) (finish_is f.0 (last_line 1 (words 1 bytes)) (view m) (words 1 bytes) f.1 f.2)
       go (Err e) f = tt
 

@@ -69,4 +69,6 @@ pub number_leads : (ls : List Line) (line : ℕ) (b : Begun) (u v : Uncut) (w : 
     → r ≡ numbered (number_of w.text) w.line
     → Leads (Numbers ls line b) u r (grown ls line b) v
 number_leads ls line b u v w (Ok k) n h = run_onto step finish (Numbers ls line b) u v w k (numbered (number_of w.text) w.line) (grown ls line b) n (step-numbers ls line b w) (sym h)
-number_leads ls line b u v w (Err e) n h = inr (run_refused step finish (Numbers ls line b) u v w e n (step-numbers ls line b w ∙ onto_err (numbered (number_of w.text) w.line) (grown ls line b) e (sym h)))
+number_leads ls line b u v w (Err e) n h = inr
+    (run_refused step finish (Numbers ls line b) u v w e n
+    (step-numbers ls line b w ∙ onto_err (numbered (number_of w.text) w.line) (grown ls line b) e (sym h)))

@@ -27,9 +27,12 @@ use Rattle.lemmas.proofs.Truth.{cond_cases, ok_then}
 -- ---- what a token said
 
 rank_is : (text : List ℕ) (r : RankWord) → rank_word_of text ≡ Some r → text ≡ rank_text r
-rank_is text r h = elim (cond_cases (bytes_eq text (codes "begin")) (Some word.Begin) (cond (bytes_eq text (codes "end")) (Some word.End) (cond (bytes_eq text (codes "send")) (Some word.Send) (cond (bytes_eq text (codes "recv")) (Some word.Recv) None))) (Some r) h) [
+rank_is text r h = elim (cond_cases (bytes_eq text (codes "begin")) (Some word.Begin)
+    (cond (bytes_eq text (codes "end")) (Some word.End)
+    (cond (bytes_eq text (codes "send")) (Some word.Send) (cond (bytes_eq text (codes "recv")) (Some word.Recv) None))) (Some r) h) [
   | inl k ↦ let e : word.Begin ≡ r = cc in bytes_eq_same text (codes "begin") k.0 ∙ ap rank_text e
-  | inr k ↦ elim (cond_cases (bytes_eq text (codes "end")) (Some word.End) (cond (bytes_eq text (codes "send")) (Some word.Send) (cond (bytes_eq text (codes "recv")) (Some word.Recv) None)) (Some r) k.1) [
+  | inr k ↦ elim (cond_cases (bytes_eq text (codes "end")) (Some word.End)
+      (cond (bytes_eq text (codes "send")) (Some word.Send) (cond (bytes_eq text (codes "recv")) (Some word.Recv) None)) (Some r) k.1) [
     | inl m ↦ let e : word.End ≡ r = cc in bytes_eq_same text (codes "end") m.0 ∙ ap rank_text e
     | inr m ↦ elim (cond_cases (bytes_eq text (codes "send")) (Some word.Send) (cond (bytes_eq text (codes "recv")) (Some word.Recv) None) (Some r) m.1) [
       | inl n ↦ let e : word.Send ≡ r = cc in bytes_eq_same text (codes "send") n.0 ∙ ap rank_text e

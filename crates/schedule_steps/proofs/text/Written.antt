@@ -23,7 +23,8 @@ word_token (End k r p) = (omega arith, refl)
 word_token (Join k) = (omega arith, refl)
 
 -- what the crates below promise: printed numbers are read again, and written lines are cut again
-module _ (counted : (n : ℕ) → n < 2 ^ 64 → number_of (decimal n) ≡ Some n) (cut : (line : ℕ) (lines : List (List (List ℕ))) → AreLines lines → words line (text_of_lines lines) ≡ placed line lines) where
+module _ (counted : (n : ℕ) → n < 2 ^ 64 → number_of (decimal n) ≡ Some n)
+    (cut : (line : ℕ) (lines : List (List (List ℕ))) → AreLines lines → words line (text_of_lines lines) ≡ placed line lines) where
   printed : (n : ℕ) → n < 2 ^ 32 → number_of (decimal n) ≡ Some n
   printed n low = counted n (omega arith)
 

@@ -10,7 +10,9 @@ use Rattle.step_judge.specs.Item.{Item, Complete}
 pub unchanged : (items all : List Item) (here : ℕ) (d new : Item) → items ≡ all → new ≡ get_or items here d → set items here new ≡ all
 unchanged items all here d new same e = ap (λ z. set items here z) e ∙ (set-get_or items here d ∙ same)
 
-pub passed_more : (items all : List Item) (from here x : ℕ) (d₀ : Item) → items ≡ all → here < length all → Complete (get_or items here d₀) x → ((k : ℕ) (d : Item) → from ≤ k → k < here → Complete (get_or all k d) x) → (k : ℕ) (d : Item) → from ≤ k → k < here + 1 → Complete (get_or all k d) x
+pub passed_more : (items all : List Item) (from here x : ℕ) (d₀ : Item) → items ≡ all → here < length all
+    → Complete (get_or items here d₀) x → ((k : ℕ) (d : Item) → from ≤ k → k < here → Complete (get_or all k d) x) → (k : ℕ) (d : Item)
+    → from ≤ k → k < here + 1 → Complete (get_or all k d) x
 passed_more items all from here x d₀ same lt done h k d le kl = ⊎_elim
     (λ (e : k ≡ here). subst (λ z. Complete (get_or all z d) x) (sym e) (subst (λ z. Complete z x) (ap (λ z. get_or z here d₀) same ∙ get_or_default all here d₀ d lt) done))
     (λ (ne : k ≡ here → ⊥). h k d le (omega arith))
@@ -24,7 +26,9 @@ back items new len e n =
     ∙ (ap (λ z. take len z) (append-nil items) ∙ take_all len items (omega arith)))
 
 -- the rank stands further on
-pub stands_moved : (v : Marked) (at : List ℕ) (x from here to : ℕ) → Whole v at → x < v.ranks → from ≡ get_or at x from → (here ≤ to) ⊎ (here ≡ from) → to ≤ length v.items → ((k : ℕ) (d : Item) → from ≤ k → k < here → Complete (get_or v.items k d) x) → Whole v (set at x here)
+pub stands_moved : (v : Marked) (at : List ℕ) (x from here to : ℕ) → Whole v at → x < v.ranks → from ≡ get_or at x from → (here ≤ to)
+    ⊎ (here ≡ from) → to ≤ length v.items → ((k : ℕ) (d : Item) → from ≤ k → k < here → Complete (get_or v.items k d) x)
+    → Whole v (set at x here)
 stands_moved v at x from here to w lt read within tol passed =
     let xin : x < length at = (let r : length at ≡ v.ranks = w.each_rank in omega arith) in
     let old : from ≡ get_or at x 0 = get_or_read at x from xin read 0 in

@@ -49,7 +49,8 @@ open_mark (k ∷ ks) (false ∷ ds) zero c n lt h = ⊎_elim
     (cases_Bool (k == c))
 open_mark (k ∷ ks) (d ∷ ds) (suc t) c n lt h = let ih : open_in ks (set ds t true) c + one (get_or ks t 0 == c) ≡ open_in ks ds c = open_mark ks ds t c (omega arith) (omega arith) h in omega arith
 
-pub open_mark_same : (ks : List ℕ) (ds : List Bool) (t c : ℕ) → length ds ≡ length ks → t < length ks → get_or ds t false ≡ false → get_or ks t 0 ≡ c → open_in ks (set ds t true) c + 1 ≡ open_in ks ds c
+pub open_mark_same : (ks : List ℕ) (ds : List Bool) (t c : ℕ) → length ds ≡ length ks → t < length ks → get_or ds t false ≡ false
+    → get_or ks t 0 ≡ c → open_in ks (set ds t true) c + 1 ≡ open_in ks ds c
 open_mark_same ks ds t c n lt h same = let e : one (get_or ks t 0 == c) ≡ 1 = one_same (get_or ks t 0) c same in omega (arith, open_mark ks ds t c n lt h, e)
 
 pub open_fresh : (ks : List ℕ) (c : ℕ) → open_in ks (replicate (length ks) false) c ≡ count_of ks c
@@ -73,7 +74,8 @@ count_room ks i v lt h =
     omega (arith, count_bound ks (get_or ks i 0))
 
 -- what a mark leaves of the counters
-pub mark_kept : (of : List ℕ) (done : List Bool) (left : List ℕ) (at t : ℕ) → Kept of done left at → t < length of → get_or done t false ≡ false → Kept of (set done t true) (set left (get_or of t 0) (get_or left (get_or of t 0) 0 - 1)) at
+pub mark_kept : (of : List ℕ) (done : List Bool) (left : List ℕ) (at t : ℕ) → Kept of done left at → t < length of
+    → get_or done t false ≡ false → Kept of (set done t true) (set left (get_or of t 0) (get_or left (get_or of t 0) 0 - 1)) at
 mark_kept of done left at t k lt h =
     let n : length done ≡ length of = k.size in
     let nl : length (set left (get_or of t 0) (get_or left (get_or of t 0) 0 - 1)) ≡ length left = length-set left (get_or of t 0) (get_or left (get_or of t 0) 0 - 1) in
@@ -92,11 +94,14 @@ mark_kept of done left at t k lt h =
     value c cl = ⊎_elim
         (λ (e : get_or of t 0 ≡ c).
         let weighs : one (get_or of t 0 == c) ≡ 1 = one_same (get_or of t 0) c e in
-        let got : get_or (set left (get_or of t 0) (get_or left (get_or of t 0) 0 - 1)) c 0 ≡ get_or left c 0 - 1 = subst (λ z. get_or (set left (get_or of t 0) (get_or left (get_or of t 0) 0 - 1)) z 0 ≡ get_or left z 0 - 1) e (get_or-set_same left (get_or of t 0) (get_or left (get_or of t 0) 0 - 1) 0 (k.stages t lt)) in
+        let got : get_or (set left (get_or of t 0) (get_or left (get_or of t 0) 0 - 1)) c 0 ≡ get_or left c 0 - 1 =
+            subst (λ z. get_or (set left (get_or of t 0) (get_or left (get_or of t 0) 0 - 1)) z 0 ≡ get_or left z 0 - 1) e
+            (get_or-set_same left (get_or of t 0) (get_or left (get_or of t 0) 0 - 1) 0 (k.stages t lt)) in
         omega arith)
         (λ (ne : get_or of t 0 ≡ c → ⊥).
         let weighs : one (get_or of t 0 == c) ≡ 0 = one_other (get_or of t 0) c ne in
-        let got : get_or (set left (get_or of t 0) (get_or left (get_or of t 0) 0 - 1)) c 0 ≡ get_or left c 0 = get_or-set_other left (get_or of t 0) c (get_or left (get_or of t 0) 0 - 1) 0 (λ q. ne (sym q)) in
+        let got : get_or (set left (get_or of t 0) (get_or left (get_or of t 0) 0 - 1)) c 0 ≡ get_or left c 0 =
+            get_or-set_other left (get_or of t 0) c (get_or left (get_or of t 0) 0 - 1) 0 (λ q. ne (sym q)) in
         omega arith)
         (cases_eq (get_or of t 0) c)
 
@@ -133,7 +138,9 @@ stage_iff of done left at c k = (
 )
 
 -- where every stage below here has none left, and here has one
-pub lower_iff : (of : List ℕ) (done : List Bool) (left : List ℕ) (at here c : ℕ) → Kept of done left at → ((i : ℕ) → at ≤ i → i < here → get_or left i 0 ≡ 0) → (here < length left → 0 < get_or left here 0) → ((length left ≤ here) ⊎ (c ≤ here)) ↔ ((t : ℕ) → t < length of → get_or of t 0 < c → get_or done t false ≡ true)
+pub lower_iff : (of : List ℕ) (done : List Bool) (left : List ℕ) (at here c : ℕ) → Kept of done left at
+    → ((i : ℕ) → at ≤ i → i < here → get_or left i 0 ≡ 0) → (here < length left → 0 < get_or left here 0)
+    → ((length left ≤ here) ⊎ (c ≤ here)) ↔ ((t : ℕ) → t < length of → get_or of t 0 < c → get_or done t false ≡ true)
 lower_iff of done left at here c k passed stop = (
   (λ (z : (length left ≤ here) ⊎ (c ≤ here)). λ t lt below.
       let s : get_or of t 0 < length left = k.stages t lt in
@@ -158,7 +165,8 @@ lower_iff of done left at here c k passed stop = (
     cases_le a b = ⊎_elim (λ (q : b < a). inr q) (λ (q : a ≤ b). inl q) (cases_lt b a)
 
 -- the counters before anything is done
-pub new_kept : (of : List ℕ) (left : List ℕ) → length of < 2 ^ 32 → ((t : ℕ) → t < length of → get_or of t 0 < length left) → ((c : ℕ) → c < length left → get_or left c 0 ≡ count_of of c) → Kept of (replicate (length of) false) left 0
+pub new_kept : (of : List ℕ) (left : List ℕ) → length of < 2 ^ 32 → ((t : ℕ) → t < length of → get_or of t 0 < length left)
+    → ((c : ℕ) → c < length left → get_or left c 0 ≡ count_of of c) → Kept of (replicate (length of) false) left 0
 new_kept of left fits below counts = record {
   size = length-replicate (length of) false;
   fits = fits;
@@ -168,14 +176,17 @@ new_kept of left fits below counts = record {
   passed = λ c lt. absurd (omega arith);
 }
 
-pub all_iff : (of : List ℕ) (done : List Bool) (left : List ℕ) (at here : ℕ) → Kept of done left at → ((i : ℕ) → at ≤ i → i < here → get_or left i 0 ≡ 0) → (here < length left → 0 < get_or left here 0) → (length left ≤ here) ↔ ((t : ℕ) → t < length of → get_or done t false ≡ true)
+pub all_iff : (of : List ℕ) (done : List Bool) (left : List ℕ) (at here : ℕ) → Kept of done left at
+    → ((i : ℕ) → at ≤ i → i < here → get_or left i 0 ≡ 0) → (here < length left → 0 < get_or left here 0)
+    → (length left ≤ here) ↔ ((t : ℕ) → t < length of → get_or done t false ≡ true)
 all_iff of done left at here k passed stop = (
   (λ z t lt. (let s : get_or of t 0 < length left = k.stages t lt in (lower_iff of done left at here (length left) k passed stop).0 (inl z) t lt s)),
   (λ h. ⊎_elim (λ (q : length left ≤ here). q) (λ (q : length left ≤ here). q) ((lower_iff of done left at here (length left) k passed stop).1 (λ t lt s. h t lt))),
 )
 
 -- the same for the values that the code has read
-pub mark_read : (of : List ℕ) (done : List Bool) (left : List ℕ) (at t s v : ℕ) → Kept of done left at → t < length of → get_or done t false ≡ false → s ≡ get_or of t s → v ≡ get_or left s v → (1 ≤ v) × Kept of (set done t true) (set left s (v - 1)) at
+pub mark_read : (of : List ℕ) (done : List Bool) (left : List ℕ) (at t s v : ℕ) → Kept of done left at → t < length of
+    → get_or done t false ≡ false → s ≡ get_or of t s → v ≡ get_or left s v → (1 ≤ v) × Kept of (set done t true) (set left s (v - 1)) at
 mark_read of done left at t s v k lt h es ev =
     let e : get_or of t 0 ≡ s = sym (get_or_read of t s lt es 0) in
     let inside : s < length left = (let g : get_or of t 0 < length left = k.stages t lt in omega arith) in

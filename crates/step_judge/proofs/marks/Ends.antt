@@ -28,7 +28,8 @@ begin_whole v p w = record {
 }
 
 -- one block's marks and the colours' marks change
-module _ (v : Run) (p : ℕ) (m cs : Marks) (w : Whole v) (inside : p < length v.begun) (same_of : m.of ≡ (block_at v (p / v.size)).of) (done : m.done ≡ set (block_at v (p / v.size)).done (p % v.size) true) where
+module _ (v : Run) (p : ℕ) (m cs : Marks) (w : Whole v) (inside : p < length v.begun) (same_of : m.of ≡ (block_at v (p / v.size)).of)
+    (done : m.done ≡ set (block_at v (p / v.size)).done (p % v.size) true) where
   abbrev b : ℕ
   b = p / v.size
 
@@ -49,7 +50,8 @@ module _ (v : Run) (p : ℕ) (m cs : Marks) (w : Whole v) (inside : p < length v
 
   done_length : (i : ℕ) → length (block_at after i).done ≡ length (block_at v i).done
   done_length i = ⊎_elim
-      (λ (e : i ≡ b). subst (λ z. length (block_at after z).done ≡ length (block_at v z).done) (sym e) (ap (λ z. length z.done) here ∙ (ap length done ∙ length-set (block_at v b).done (p % v.size) true)))
+      (λ (e : i ≡ b). subst (λ z. length (block_at after z).done ≡ length (block_at v z).done) (sym e)
+          (ap (λ z. length z.done) here ∙ (ap length done ∙ length-set (block_at v b).done (p % v.size) true)))
       (λ (ne : i ≡ b → ⊥). ap (λ z. length z.done) (there i ne))
       (cases_eq i b)
 
@@ -60,7 +62,9 @@ module _ (v : Run) (p : ℕ) (m cs : Marks) (w : Whole v) (inside : p < length v
   end_marks q = ⊎_elim
       (λ (e : q ≡ p). subst (λ z. ended_at after z ≡ (z == p || ended_at v z)) (sym e)
       (ap (λ z. get_or z.done (p % v.size) false) here ∙ (ap (λ z. get_or z (p % v.size) false) done
-      ∙ (get_or-set_same (block_at v b).done (p % v.size) true false (subst (λ z. p % v.size < z) (sym (w.block_done b (w.block_in p inside))) (w.place_in p inside)) ∙ sym (or_left (p == p) (ended_at v p) (eq-eqb p p refl))))))
+      ∙ (get_or-set_same (block_at v b).done (p % v.size) true false
+          (subst (λ z. p % v.size < z) (sym (w.block_done b (w.block_in p inside))) (w.place_in p inside))
+          ∙ sym (or_left (p == p) (ended_at v p) (eq-eqb p p refl))))))
       (λ (ne : q ≡ p → ⊥). other q ne ∙ sym (ap (λ z. z || ended_at v q) (ne_eqb q p ne)))
       (cases_eq q p)
     where
@@ -72,7 +76,9 @@ module _ (v : Run) (p : ℕ) (m cs : Marks) (w : Whole v) (inside : p < length v
           (λ (n : q / v.size ≡ b → ⊥). ap (λ z. get_or z.done (q % v.size) false) (there (q / v.size) n))
           (cases_eq (q / v.size) b)
 
-  pub end_whole : length cs.of ≡ length v.colours.of → length cs.done ≡ length v.colours.done → ((i : ℕ) → (i ≡ b → ⊥) → get_or cs.done i false ≡ get_or v.colours.done i false) → ((get_or cs.done b false ≡ true) ↔ AllDone m) → begun_at v p ≡ true → Whole after
+  pub end_whole : length cs.of ≡ length v.colours.of → length cs.done ≡ length v.colours.done
+      → ((i : ℕ) → (i ≡ b → ⊥) → get_or cs.done i false ≡ get_or v.colours.done i false) → ((get_or cs.done b false ≡ true) ↔ AllDone m)
+      → begun_at v p ≡ true → Whole after
   end_whole co cd others this begun = record {
     sized = w.sized;
     fits = w.fits;
@@ -85,7 +91,8 @@ module _ (v : Run) (p : ℕ) (m cs : Marks) (w : Whole v) (inside : p < length v
     in_place = λ i t il tl. w.in_place i t (rw length-set at il) (subst (λ z. t < length z) (of_same i) tl);
     closed = λ i il. ⊎_elim
         (λ (e : i ≡ b). subst (λ z. (get_or cs.done z false ≡ true) ↔ AllDone (block_at after z)) (sym e) (subst (λ z. (get_or cs.done b false ≡ true) ↔ AllDone z) (sym here) this))
-        (λ (ne : i ≡ b → ⊥). subst (λ z. (z ≡ true) ↔ AllDone (block_at after i)) (sym (others i ne)) (subst (λ z. (get_or v.colours.done i false ≡ true) ↔ AllDone z) (sym (there i ne)) (w.closed i (rw length-set at il))))
+        (λ (ne : i ≡ b → ⊥). subst (λ z. (z ≡ true) ↔ AllDone (block_at after i)) (sym (others i ne))
+            (subst (λ z. (get_or v.colours.done i false ≡ true) ↔ AllDone z) (sym (there i ne)) (w.closed i (rw length-set at il))))
         (cases_eq i b);
     core_each = w.core_each;
     begins_first = λ q lt e. ⊎_elim
@@ -112,7 +119,8 @@ abbrev pub Wrote_run : Run → ℕ → Marks → Marks → Run
 Wrote_run v p m cs = record { size = v.size; begun = v.begun; blocks = set v.blocks (p / v.size) m; colours = cs; core = v.core }
 
 -- the last place of its block
-pub last_whole : (v : Run) (p : ℕ) (old m cs : Marks) → Whole v → p < length v.begun → Wrote v p old m → begun_at v p ≡ true → AllDone m → cs ≡ record { of = v.colours.of; done = set v.colours.done (p / v.size) true } → Whole (Wrote_run v p m cs)
+pub last_whole : (v : Run) (p : ℕ) (old m cs : Marks) → Whole v → p < length v.begun → Wrote v p old m → begun_at v p ≡ true → AllDone m
+    → cs ≡ record { of = v.colours.of; done = set v.colours.done (p / v.size) true } → Whole (Wrote_run v p m cs)
 last_whole v p old m cs w inside h begun all e =
     end_whole v p m cs w inside (of_is v p old m w inside h) (done_is v p old m w inside h)
     (ap (λ z. length z.of) e)

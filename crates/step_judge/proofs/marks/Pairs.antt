@@ -13,11 +13,16 @@ pair_found (f ∷ fs) (t ∷ ts) s r n lt = ⊎_elim
     (λ (e : ((f == s) && (t == r)) ≡ false). (let lt' : suc (pair_at fs ts s r) < suc (length fs) = rw e at lt in rw e (pair_found fs ts s r (omega arith) (omega arith))))
     (cases_Bool ((f == s) && (t == r)))
 
-pub pair_not_here : (fs ts : List ℕ) (s r i : ℕ) → i < length fs → length ts ≡ length fs → ((get_or fs i 0 == s) && (get_or ts i 0 == r)) ≡ false → pair_at fs ts s r ≡ i + pair_at (drop i fs) (drop i ts) s r → pair_at fs ts s r ≡ (i + 1) + pair_at (drop (i + 1) fs) (drop (i + 1) ts) s r
+pub pair_not_here : (fs ts : List ℕ) (s r i : ℕ) → i < length fs → length ts ≡ length fs
+    → ((get_or fs i 0 == s) && (get_or ts i 0 == r)) ≡ false → pair_at fs ts s r ≡ i + pair_at (drop i fs) (drop i ts) s r
+    → pair_at fs ts s r ≡ (i + 1) + pair_at (drop (i + 1) fs) (drop (i + 1) ts) s r
 pair_not_here fs ts s r i lt n ne h =
     let it : i < length ts = omega arith in
-    let a : pair_at (drop i fs) (drop i ts) s r ≡ pair_at (get_or fs i 0 ∷ drop (i + 1) fs) (get_or ts i 0 ∷ drop (i + 1) ts) s r = ap (λ z. pair_at z (drop i ts) s r) (drop_more fs i 0 lt) ∙ ap (λ z. pair_at (get_or fs i 0 ∷ drop (i + 1) fs) z s r) (drop_more ts i 0 it) in
-    let b : pair_at (get_or fs i 0 ∷ drop (i + 1) fs) (get_or ts i 0 ∷ drop (i + 1) ts) s r ≡ suc (pair_at (drop (i + 1) fs) (drop (i + 1) ts) s r) = ap (λ z. cond z 0 (suc (pair_at (drop (i + 1) fs) (drop (i + 1) ts) s r))) ne in
+    let a : pair_at (drop i fs) (drop i ts) s r ≡ pair_at (get_or fs i 0 ∷ drop (i + 1) fs) (get_or ts i 0 ∷ drop (i + 1) ts) s r =
+        ap (λ z. pair_at z (drop i ts) s r) (drop_more fs i 0 lt)
+        ∙ ap (λ z. pair_at (get_or fs i 0 ∷ drop (i + 1) fs) z s r) (drop_more ts i 0 it) in
+    let b : pair_at (get_or fs i 0 ∷ drop (i + 1) fs) (get_or ts i 0 ∷ drop (i + 1) ts) s r ≡ suc
+        (pair_at (drop (i + 1) fs) (drop (i + 1) ts) s r) = ap (λ z. cond z 0 (suc (pair_at (drop (i + 1) fs) (drop (i + 1) ts) s r))) ne in
     omega (arith, h, a ∙ b)
 
 pub sent_iff : (w : Item) (x : ℕ) → Paired w → StageDone w.sends x ↔ AllSent w x
@@ -30,7 +35,8 @@ sent_iff w x p = (
 
 pub received_iff : (w : Item) (x : ℕ) → Paired w → StageDone w.receipts x ↔ AllReceived w x
 received_iff w x p = (
-  (λ all s l. (let lt : place_of w s x < length w.sends.of = ltb-true _ _ l in all (place_of w s x) (subst (λ z. place_of w s x < z) (sym p.both) lt) (pair_found w.sends.of w.receipts.of s x p.both lt).1)),
+  (λ all s l. (let lt : place_of w s x < length w.sends.of = ltb-true _ _ l in
+      all (place_of w s x) (subst (λ z. place_of w s x < z) (sym p.both) lt) (pair_found w.sends.of w.receipts.of s x p.both lt).1)),
   (λ all t tl e.
       let lt : t < length w.sends.of = subst (λ z. t < z) p.both tl in
       let at : place_of w (get_or w.sends.of t 0) x ≡ t = subst (λ z. place_of w (get_or w.sends.of t 0) z ≡ t) e (p.apart t lt) in

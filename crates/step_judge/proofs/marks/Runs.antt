@@ -79,8 +79,11 @@ module _ (v : Marked) (k r p : ℕ) (run : Run) (inn : k < length v.items) (rank
       mark : (t : Step) → item t ≡ k → taken next t ≡ (same t (Begin k r p) || taken v t)
       mark (Send i a b) e = subst (λ z. sent (item_at next z) a b ≡ sent (item_at v z) a b) (sym e) (ap (λ z. sent z a b) (here v k u inn s))
       mark (Recv i a b) e = subst (λ z. received (item_at next z) b a ≡ received (item_at v z) b a) (sym e) (ap (λ z. received z b a) (here v k u inn s))
-      mark (Begin i a b) e = subst (λ z. begun_at (run_at (item_at next z) a) b ≡ (same3 z a b k r p || begun_at (run_at (item_at v z) a) b)) (sym e) (ap (λ z. begun_at (run_at z a) b) (here v k u inn s) ∙ changed begun_at hb a b)
-      mark (End i a b) e = subst (λ z. ended_at (run_at (item_at next z) a) b ≡ ended_at (run_at (item_at v z) a) b) (sym e) (ap (λ z. ended_at (run_at z a) b) (here v k u inn s) ∙ kept ended_at he a b)
+      mark (Begin i a b) e = subst (λ z. begun_at (run_at (item_at next z) a) b ≡
+          (same3 z a b k r p || begun_at (run_at (item_at v z) a) b)) (sym e)
+          (ap (λ z. begun_at (run_at z a) b) (here v k u inn s) ∙ changed begun_at hb a b)
+      mark (End i a b) e = subst (λ z. ended_at (run_at (item_at next z) a) b ≡ ended_at (run_at (item_at v z) a) b) (sym e)
+          (ap (λ z. ended_at (run_at z a) b) (here v k u inn s) ∙ kept ended_at he a b)
       mark (Join i) e = subst (λ z. (item_at next z).joined ≡ (item_at v z).joined) (sym e) (ap (λ z. z.joined) (here v k u inn s))
 
   pub end_takes : ((q : ℕ) → ended_at run q ≡ (q == p || ended_at (run_at w r) q)) → ((q : ℕ) → begun_at run q ≡ begun_at (run_at w r) q) → TakesOne v next (End k r p)
@@ -89,8 +92,10 @@ module _ (v : Marked) (k r p : ℕ) (run : Run) (inn : k < length v.items) (rank
       mark : (t : Step) → item t ≡ k → taken next t ≡ (same t (End k r p) || taken v t)
       mark (Send i a b) e = subst (λ z. sent (item_at next z) a b ≡ sent (item_at v z) a b) (sym e) (ap (λ z. sent z a b) (here v k u inn s))
       mark (Recv i a b) e = subst (λ z. received (item_at next z) b a ≡ received (item_at v z) b a) (sym e) (ap (λ z. received z b a) (here v k u inn s))
-      mark (End i a b) e = subst (λ z. ended_at (run_at (item_at next z) a) b ≡ (same3 z a b k r p || ended_at (run_at (item_at v z) a) b)) (sym e) (ap (λ z. ended_at (run_at z a) b) (here v k u inn s) ∙ changed ended_at he a b)
-      mark (Begin i a b) e = subst (λ z. begun_at (run_at (item_at next z) a) b ≡ begun_at (run_at (item_at v z) a) b) (sym e) (ap (λ z. begun_at (run_at z a) b) (here v k u inn s) ∙ kept begun_at hb a b)
+      mark (End i a b) e = subst (λ z. ended_at (run_at (item_at next z) a) b ≡ (same3 z a b k r p || ended_at (run_at (item_at v z) a) b))
+          (sym e) (ap (λ z. ended_at (run_at z a) b) (here v k u inn s) ∙ changed ended_at he a b)
+      mark (Begin i a b) e = subst (λ z. begun_at (run_at (item_at next z) a) b ≡ begun_at (run_at (item_at v z) a) b) (sym e)
+          (ap (λ z. begun_at (run_at z a) b) (here v k u inn s) ∙ kept begun_at hb a b)
       mark (Join i) e = subst (λ z. (item_at next z).joined ≡ (item_at v z).joined) (sym e) (ap (λ z. z.joined) (here v k u inn s))
 
 -- the run after a begin
@@ -110,26 +115,39 @@ place_in : (v : Marked) (k r p : ℕ) → IsStep (outline_of v) (Begin k r p) �
 place_in v k r p st = (st.0, ltb-true _ _ (and_parts (nat_lt p (length (run_at (item_at v k) r).begun)) true st.3).0)
 
 rank_in : (w : Item) (r p : ℕ) → p < length (run_at w r).begun → r < length w.ranks
-rank_in w r p lt = ⊎_elim (λ (q : r < length w.ranks). q) (λ (q : length w.ranks ≤ r). absurd (let z : p < 0 = subst (λ y. p < length y.begun) (get_or_past w.ranks r no_run q) lt in omega arith)) (cases_lt r (length w.ranks))
+rank_in w r p lt = ⊎_elim (λ (q : r < length w.ranks). q)
+    (λ (q : length w.ranks ≤ r). absurd (let z : p < 0 = subst (λ y. p < length y.begun) (get_or_past w.ranks r no_run q) lt in
+    omega arith)) (cases_lt r (length w.ranks))
 
-pub begin_wrote : (v : Marked) (at : List ℕ) (k r p : ℕ) (old new : Item) → Whole v at → IsStep (outline_of v) (Begin k r p) → old ≡ get_or v.items k old → new ≡ with_run old r (begun_run (run_at old r) p) → Whole (put v k new) at × TakesOne v (put v k new) (Begin k r p)
+pub begin_wrote : (v : Marked) (at : List ℕ) (k r p : ℕ) (old new : Item) → Whole v at → IsStep (outline_of v) (Begin k r p)
+    → old ≡ get_or v.items k old → new ≡ with_run old r (begun_run (run_at old r) p) → Whole (put v k new) at
+    × TakesOne v (put v k new) (Begin k r p)
 begin_wrote v at k r p old new w st read wrote =
     let l : (k < length v.items) × (p < length (run_at (item_at v k) r).begun) = place_in v k r p st in
     let o : old ≡ item_at v k = get_or_read v.items k old l.0 read no_item in
     let rank : r < length (item_at v k).ranks = rank_in (item_at v k) r p l.1 in
-    let t : TakesOne v (put v k (with_run (item_at v k) r (begun_run (run_at (item_at v k) r) p))) (Begin k r p) = begin_takes v k r p (begun_run (run_at (item_at v k) r) p) l.0 rank (begun_places (run_at (item_at v k) r) p) (begun_marks (run_at (item_at v k) r) p l.1) (λ q. refl) in
+    let t : TakesOne v (put v k (with_run (item_at v k) r (begun_run (run_at (item_at v k) r) p))) (Begin k r p) =
+        begin_takes v k r p (begun_run (run_at (item_at v k) r) p) l.0 rank (begun_places (run_at (item_at v k) r) p)
+        (begun_marks (run_at (item_at v k) r) p l.1) (λ q. refl) in
     let e : with_run (item_at v k) r (begun_run (run_at (item_at v k) r) p) ≡ new = sym (wrote ∙ ap (λ z. with_run z r (begun_run (run_at z r) p)) o) in
     subst (λ z. Whole (put v k z) at × TakesOne v (put v k z) (Begin k r p)) e
-    (whole_after v k (with_run (item_at v k) r (begun_run (run_at (item_at v k) r) p)) l.0 (run_shape (item_at v k) r (begun_run (run_at (item_at v k) r) p) rank (begun_places (run_at (item_at v k) r) p)) at (Begin k r p) w t, t)
+    (whole_after v k (with_run (item_at v k) r (begun_run (run_at (item_at v k) r) p)) l.0
+        (run_shape (item_at v k) r (begun_run (run_at (item_at v k) r) p) rank (begun_places (run_at (item_at v k) r) p)) at (Begin k r p) w
+        t, t)
 
-pub end_wrote : (v : Marked) (at : List ℕ) (k r p : ℕ) (old new : Item) → Whole v at → IsStep (outline_of v) (End k r p) → old ≡ get_or v.items k old → ((run : Run) × (new ≡ with_run old r run) × (run.begun ≡ (run_at old r).begun) × SamePlaces (run_at old r) run × ((q : ℕ) → ended_at run q ≡ (q == p || ended_at (run_at old r) q))) → Whole (put v k new) at × TakesOne v (put v k new) (End k r p)
+pub end_wrote : (v : Marked) (at : List ℕ) (k r p : ℕ) (old new : Item) → Whole v at → IsStep (outline_of v) (End k r p)
+    → old ≡ get_or v.items k old → ((run : Run) × (new ≡ with_run old r run) × (run.begun ≡ (run_at old r).begun)
+    × SamePlaces (run_at old r) run × ((q : ℕ) → ended_at run q ≡ (q == p || ended_at (run_at old r) q))) → Whole (put v k new) at
+    × TakesOne v (put v k new) (End k r p)
 end_wrote v at k r p old new w st read wrote =
     let l : (k < length v.items) × (p < length (run_at (item_at v k) r).begun) = place_in v k r p st in
     let o : old ≡ item_at v k = get_or_read v.items k old l.0 read no_item in
     let rank : r < length (item_at v k).ranks = rank_in (item_at v k) r p l.1 in
     let run : Run = wrote.0 in
     let places : SamePlaces (run_at (item_at v k) r) run = subst (λ z. SamePlaces (run_at z r) run) o wrote.3 in
-    let t : TakesOne v (put v k (with_run (item_at v k) r run)) (End k r p) = end_takes v k r p run l.0 rank places (subst (λ z. (q : ℕ) → ended_at run q ≡ (q == p || ended_at (run_at z r) q)) o wrote.4) (λ q. ap (λ z. get_or z q false) (subst (λ z. run.begun ≡ (run_at z r).begun) o wrote.2)) in
+    let t : TakesOne v (put v k (with_run (item_at v k) r run)) (End k r p) =
+        end_takes v k r p run l.0 rank places (subst (λ z. (q : ℕ) → ended_at run q ≡ (q == p || ended_at (run_at z r) q)) o wrote.4)
+        (λ q. ap (λ z. get_or z q false) (subst (λ z. run.begun ≡ (run_at z r).begun) o wrote.2)) in
     let e : with_run (item_at v k) r run ≡ new = sym (wrote.1 ∙ ap (λ z. with_run z r run) o) in
     subst (λ z. Whole (put v k z) at × TakesOne v (put v k z) (End k r p)) e
     (whole_after v k (with_run (item_at v k) r run) l.0 (run_shape (item_at v k) r run rank places) at (End k r p) w t, t)
@@ -141,7 +159,8 @@ joined_item w = record { free = w.free; joined = true; sends = w.sends; receipts
 joined_shape : (w : Item) → SameItem w (joined_item w)
 joined_shape w = record { free = refl; links = λ a b. refl; pairs = refl; places = λ x. refl; lower = λ x p q. refl; core = λ x. refl; ranks = refl }
 
-pub join_wrote : (v : Marked) (at : List ℕ) (k : ℕ) (old new : Item) → Whole v at → IsStep (outline_of v) (Join k) → old ≡ get_or v.items k old → new ≡ joined_item old → Whole (put v k new) at × TakesOne v (put v k new) (Join k)
+pub join_wrote : (v : Marked) (at : List ℕ) (k : ℕ) (old new : Item) → Whole v at → IsStep (outline_of v) (Join k)
+    → old ≡ get_or v.items k old → new ≡ joined_item old → Whole (put v k new) at × TakesOne v (put v k new) (Join k)
 join_wrote v at k old new w st read wrote =
     let inn : k < length v.items = st.0 in
     let o : old ≡ item_at v k = get_or_read v.items k old inn read no_item in
@@ -150,8 +169,16 @@ join_wrote v at k old new w st read wrote =
     subst (λ z. Whole (put v k z) at × TakesOne v (put v k z) (Join k)) e (whole_after v k (joined_item (item_at v k)) inn (joined_shape (item_at v k)) at (Join k) w t, t)
   where
     mark : (inn : k < length v.items) (t : Step) → item t ≡ k → taken (put v k (joined_item (item_at v k))) t ≡ (same t (Join k) || taken v t)
-    mark inn (Send i a b) e = subst (λ z. sent (item_at (put v k (joined_item (item_at v k))) z) a b ≡ sent (item_at v z) a b) (sym e) (ap (λ z. sent z a b) (here v k (joined_item (item_at v k)) inn (joined_shape (item_at v k))))
-    mark inn (Recv i a b) e = subst (λ z. received (item_at (put v k (joined_item (item_at v k))) z) b a ≡ received (item_at v z) b a) (sym e) (ap (λ z. received z b a) (here v k (joined_item (item_at v k)) inn (joined_shape (item_at v k))))
-    mark inn (Begin i a b) e = subst (λ z. begun_at (run_at (item_at (put v k (joined_item (item_at v k))) z) a) b ≡ begun_at (run_at (item_at v z) a) b) (sym e) (ap (λ z. begun_at (run_at z a) b) (here v k (joined_item (item_at v k)) inn (joined_shape (item_at v k))))
-    mark inn (End i a b) e = subst (λ z. ended_at (run_at (item_at (put v k (joined_item (item_at v k))) z) a) b ≡ ended_at (run_at (item_at v z) a) b) (sym e) (ap (λ z. ended_at (run_at z a) b) (here v k (joined_item (item_at v k)) inn (joined_shape (item_at v k))))
-    mark inn (Join i) e = subst (λ z. (item_at (put v k (joined_item (item_at v k))) z).joined ≡ (z == k || (item_at v z).joined)) (sym e) (ap (λ z. z.joined) (here v k (joined_item (item_at v k)) inn (joined_shape (item_at v k))) ∙ sym (or_left (k == k) (item_at v k).joined (eq-eqb k k refl)))
+    mark inn (Send i a b) e = subst (λ z. sent (item_at (put v k (joined_item (item_at v k))) z) a b ≡ sent (item_at v z) a b) (sym e)
+        (ap (λ z. sent z a b) (here v k (joined_item (item_at v k)) inn (joined_shape (item_at v k))))
+    mark inn (Recv i a b) e = subst (λ z. received (item_at (put v k (joined_item (item_at v k))) z) b a ≡ received (item_at v z) b a)
+        (sym e) (ap (λ z. received z b a) (here v k (joined_item (item_at v k)) inn (joined_shape (item_at v k))))
+    mark inn (Begin i a b) e = subst
+        (λ z. begun_at (run_at (item_at (put v k (joined_item (item_at v k))) z) a) b ≡ begun_at (run_at (item_at v z) a) b) (sym e)
+        (ap (λ z. begun_at (run_at z a) b) (here v k (joined_item (item_at v k)) inn (joined_shape (item_at v k))))
+    mark inn (End i a b) e = subst (λ z. ended_at (run_at (item_at (put v k (joined_item (item_at v k))) z) a) b ≡ ended_at
+        (run_at (item_at v z) a) b) (sym e)
+        (ap (λ z. ended_at (run_at z a) b) (here v k (joined_item (item_at v k)) inn (joined_shape (item_at v k))))
+    mark inn (Join i) e = subst (λ z. (item_at (put v k (joined_item (item_at v k))) z).joined ≡ (z == k || (item_at v z).joined)) (sym e)
+        (ap (λ z. z.joined) (here v k (joined_item (item_at v k)) inn (joined_shape (item_at v k)))
+        ∙ sym (or_left (k == k) (item_at v k).joined (eq-eqb k k refl)))

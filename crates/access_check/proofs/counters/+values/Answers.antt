@@ -27,7 +27,9 @@ chain_value-down-preserved t c =
       smaller = omega arith;
       all_smaller = all_below_set (λ e. size e ≤ size c.args.e.now) c.down.nodes (λ x. x.now) c.down.count c.down.here lt c.down.invariant.all_smaller c.down.invariant.smaller;
       value = chain_down cs c.down.nodes (λ x. x.now) c.down.count c.down.here (static c.deref-here.result.now cs) lt
-          ∙ ap (over_chain cs (map (λ x. x.now) c.down.nodes) c.down.count) (value_down cs c.down.here.now c.in-Binary.op c.in-Binary.left c.in-Binary.right c.in-Binary.at c.deref-here.result.now c.in-Binary.is c.deref-here.ensures)
+          ∙ ap (over_chain cs (map (λ x. x.now) c.down.nodes) c.down.count)
+              (value_down cs c.down.here.now c.in-Binary.op c.in-Binary.left c.in-Binary.right c.in-Binary.at c.deref-here.result.now
+              c.in-Binary.is c.deref-here.ensures)
           ∙ c.down.invariant.value;
     }
 

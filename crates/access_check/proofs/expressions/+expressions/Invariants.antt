@@ -14,7 +14,8 @@ decreases-after_expression l = 2 * size l.e.now
 
 abbrev pub invariant-after_chain-down : goal.invariant-after_chain-down
 invariant-after_chain-down l = record {
-  found : expr_found (map model_of l.modes) l.rest (counters_of l.counters) (has_component l.covered) (found_of l.now) ≡ expr_found (map model_of l.modes) l.e (counters_of l.counters) (has_component l.covered) (found_of l.fn.found);
+  found : expr_found (map model_of l.modes) l.rest (counters_of l.counters) (has_component l.covered) (found_of l.now) ≡ expr_found
+      (map model_of l.modes) l.e (counters_of l.counters) (has_component l.covered) (found_of l.fn.found);
   no_larger : size l.rest ≤ size l.e;
 }
 

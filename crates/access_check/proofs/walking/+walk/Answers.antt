@@ -75,10 +75,13 @@ walk_turns-loop-i-preserved t c =
     record {
       cells = λ v. ap (λ l. set l k v) (c.walk.ensures.counters ∙ same) ∙ set_again c.args.counters.now k (Some (pos i)) v;
       long = ap length (c.walk.ensures.counters ∙ same) ∙ length-set c.args.counters.now k (Some (pos i));
-      found = turn_found modes (λ j d g. stmt_found modes body (with_counter cs k (pos j)) d g) (λ j d. covered_after body (with_counter cs k (pos j)) d) (turn_ih modes body cs k) (turn_it modes body cs k) i c.args.past before after (found_of c.loop-i.found) (found_of c.walk.new.found) lt agree next
+      found = turn_found modes (λ j d g. stmt_found modes body (with_counter cs k (pos j)) d g)
+          (λ j d. covered_after body (with_counter cs k (pos j)) d) (turn_ih modes body cs k) (turn_it modes body cs k) i c.args.past before
+          after (found_of c.loop-i.found) (found_of c.walk.new.found) lt agree next
           ∙ c.loop-i.invariant.found;
       covered = agree_then modes _ _ _ c.loop-i.invariant.covered
-          (turn_covered modes (λ j d g. stmt_found modes body (with_counter cs k (pos j)) d g) (λ j d. covered_after body (with_counter cs k (pos j)) d) (turn_ih modes body cs k) i c.args.past before after lt agree);
+          (turn_covered modes (λ j d g. stmt_found modes body (with_counter cs k (pos j)) d g)
+              (λ j d. covered_after body (with_counter cs k (pos j)) d) (turn_ih modes body cs k) i c.args.past before after lt agree);
     }
 
 pub walk_turns-returns-clause-covered : goal.walk_turns-returns-clause-covered
@@ -89,7 +92,8 @@ walk_turns-returns-clause-covered t c =
     let k = c.args.counter in
     let le : c.args.past ≤ c.loop-i.i = omega (arith, c.loop-i-test.false) in
     λ a j l. c.loop-i.invariant.covered a j l
-    ∙ ap (λ (x : Covered). x a j) (covered_end modes (λ i d g. stmt_found modes body (with_counter cs k (pos i)) d g) (λ i d. covered_after body (with_counter cs k (pos i)) d) c.loop-i.i c.args.past (has_component c.loop-i.covered) le)
+    ∙ ap (λ (x : Covered). x a j) (covered_end modes (λ i d g. stmt_found modes body (with_counter cs k (pos i)) d g)
+        (λ i d. covered_after body (with_counter cs k (pos i)) d) c.loop-i.i c.args.past (has_component c.loop-i.covered) le)
 
 pub walk-returns-in-For-clause-found : goal.walk-returns-in-For-clause-found
 walk-returns-in-For-clause-found t c =
@@ -103,7 +107,9 @@ walk-returns-in-For-clause-found t c =
     let unnamed : names_of c.args.named.now k ≡ false → stmt_names body k ≡ false = λ e. ap (λ (b : RStmt). stmt_names b k) c.deref-in-For.ensures ∙ fits.2 e in
     c.walk_turns.ensures.found
     ∙ enough_find modes body cs k (names_of c.args.named.now k) unnamed c.in-For.first c.in-For.past c.enough_turns-enough.result covered found c.enough_turns-enough.ensures
-    ∙ ap (λ (b : RStmt). turns_found modes (λ i d g. stmt_found modes b (with_counter cs k (pos i)) d g) (λ i d. covered_after b (with_counter cs k (pos i)) d) c.in-For.first (c.in-For.past - c.in-For.first) covered found) c.deref-in-For.ensures
+    ∙ ap (λ (b : RStmt). turns_found modes (λ i d g. stmt_found modes b (with_counter cs k (pos i)) d g)
+        (λ i d. covered_after b (with_counter cs k (pos i)) d) c.in-For.first (c.in-For.past - c.in-For.first) covered found)
+        c.deref-in-For.ensures
     ∙ ap (λ (st : RStmt). stmt_found modes st cs covered found) (sym c.in-For.is)
 
 pub walk-returns-in-For-clause-covered : goal.walk-returns-in-For-clause-covered

@@ -31,4 +31,5 @@ decreases-read_worded l = 5 * l.depth + 2
 -- What is still to be read behind the tree so far is what was to be read behind the first.
 abbrev pub invariant-read_chain-loop-count : goal.invariant-read_chain-loop-count
 invariant-read_chain-loop-count l =
-    chain (kinds l.tokens) (read_at (kinds l.tokens) l.depth) 128 l.min (expr_of l.fn.first) l.fn.at ≡ chain (kinds l.tokens) (read_at (kinds l.tokens) l.depth) (128 - l.count) l.min (expr_of l.left) l.next
+    chain (kinds l.tokens) (read_at (kinds l.tokens) l.depth) 128 l.min (expr_of l.fn.first) l.fn.at ≡ chain (kinds l.tokens)
+        (read_at (kinds l.tokens) l.depth) (128 - l.count) l.min (expr_of l.left) l.next

@@ -12,7 +12,11 @@ equal : (n m : ℕ) → ◌≡◌ {A = Result ProgramTree Fault} (Err (TooDeep n
 equal n m h = cc
 
 pub returns-clause-both : goal.returns-clause-both
-returns-clause-both c = λ bytes a b n r d. never a n (sym (read_once bytes r.tokens a (λ o l. c.one_outcome.ensures bytes (Ok r.tokens) o r.lexed l) r) ∙ read_deep bytes r.tokens b n (λ o l. c.one_outcome.ensures bytes (Ok r.tokens) o r.lexed l) d)
+returns-clause-both c = λ bytes a b n r d. never a n
+    (sym (read_once bytes r.tokens a (λ o l. c.one_outcome.ensures bytes (Ok r.tokens) o r.lexed l) r)
+    ∙ read_deep bytes r.tokens b n (λ o l. c.one_outcome.ensures bytes (Ok r.tokens) o r.lexed l) d)
 
 pub returns-clause-same : goal.returns-clause-same
-returns-clause-same c = λ bytes a b n m r d. equal n m (sym (read_deep bytes r.tokens a n (λ o l. c.one_outcome.ensures bytes (Ok r.tokens) o r.lexed l) r) ∙ read_deep bytes r.tokens b m (λ o l. c.one_outcome.ensures bytes (Ok r.tokens) o r.lexed l) d)
+returns-clause-same c = λ bytes a b n m r d. equal n m
+    (sym (read_deep bytes r.tokens a n (λ o l. c.one_outcome.ensures bytes (Ok r.tokens) o r.lexed l) r)
+    ∙ read_deep bytes r.tokens b m (λ o l. c.one_outcome.ensures bytes (Ok r.tokens) o r.lexed l) d)

@@ -13,5 +13,6 @@ loop-dat-preserved c =
     rw c.in_ok-push.ensures.items (record {
       count = omega (arith, length_push c.loop-dat.all.items c.in_ok-own_of.field-0, c.loop-dat.invariant.count);
       lengths = sets_more c.loop-dat.all.items c.in_ok-own_of.field-0 c.loop-dat.dat size c.loop-dat.invariant.count c.in_ok-own_of.ensures.length c.loop-dat.invariant.lengths;
-      has = sets_has_more c.loop-dat.all.items c.in_ok-own_of.field-0 c.loop-dat.dat size (λ d y r. owns_pair b c.args.owners.now r d y) c.loop-dat.invariant.count c.in_ok-own_of.ensures.has c.loop-dat.invariant.has;
+      has = sets_has_more c.loop-dat.all.items c.in_ok-own_of.field-0 c.loop-dat.dat size (λ d y r. owns_pair b c.args.owners.now r d y)
+          c.loop-dat.invariant.count c.in_ok-own_of.ensures.has c.loop-dat.invariant.has;
     })

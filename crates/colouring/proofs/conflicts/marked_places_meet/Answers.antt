@@ -35,7 +35,8 @@ returns-then-rows_meet c =
     let b = c.loop-block.block in
     let first : c.bounds-first.result.0 ≡ b * size = ap (λ z. z.0) c.bounds-first.ensures.value in
     let last : c.bounds-first.result.1 ≡ min (b * size + size) c.args.places = ap (λ z. z.1) c.bounds-first.ensures.value in (
-      λ _. places_alike c.args.table.now c.args.colours.now c.deref.result.now c.args.width size b c.bounds-first.result.0 c.bounds-first.result.1 c.args.places c.requires.size first (omega arith) c.bounds-first.ensures.within
+      λ _. places_alike c.args.table.now c.args.colours.now c.deref.result.now c.args.width size b c.bounds-first.result.0
+          c.bounds-first.result.1 c.args.places c.requires.size first (omega arith) c.bounds-first.ensures.within
           (order_read c.order_rows.new.order.items c.deref.result.now c.bounds-first.result.0 c.bounds-first.result.1 c.deref.ensures.value c.in_ok-order_rows.ensures.rows)
           (c.rows_meet.ensures.found c.if-rows_meet.true),
       λ _. refl,
@@ -61,7 +62,9 @@ returns c = (
   λ e. absurd (false≢true e),
   λ h. absurd (none_alike_all c.args.table.now c.args.colours.now c.args.width c.args.size (c.loop-block.block * c.args.size) c.args.places c.requires.count
       (⊎_elim
-      (λ (m : c.loop-block.block * c.args.size < c.args.places). absurd (let e : c.count-block-end.result ≤ c.loop-block.block = c.loop-block-test.false in let n : c.loop-block.block < c.count-block-end.result = (c.count-block-end.ensures c.loop-block.block).1 m in omega arith))
+      (λ (m : c.loop-block.block * c.args.size < c.args.places). absurd
+          (let e : c.count-block-end.result ≤ c.loop-block.block = c.loop-block-test.false in
+          let n : c.loop-block.block < c.count-block-end.result = (c.count-block-end.ensures c.loop-block.block).1 m in omega arith))
       (λ (m : c.args.places ≤ c.loop-block.block * c.args.size). m)
       (cases_lt (c.loop-block.block * c.args.size) c.args.places))
       c.loop-block.invariant.apart h),

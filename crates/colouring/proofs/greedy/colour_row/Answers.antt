@@ -12,7 +12,8 @@ pub returns-clause-least : goal.returns-clause-least
 returns-clause-least c =
     let ts = c.args.targets.now in
     let first = row_bounds ts c.args.width c.args.row c.min-start.result c.min-end.result c.min-start.ensures c.min-end.ensures in
-    row_least ts c.args.width c.args.colours.now c.args.row c.requires.row c.args.masks.now c.requires.told c.min-start.result c.min-end.result first c.requires.targets c.in_ok-colour.colour c.in_ok-colour.ensures.below c.in_ok-colour.ensures.free
+    row_least ts c.args.width c.args.colours.now c.args.row c.requires.row c.args.masks.now c.requires.told c.min-start.result
+        c.min-end.result first c.requires.targets c.in_ok-colour.colour c.in_ok-colour.ensures.below c.in_ok-colour.ensures.free
 
 pub returns-clause-told : goal.returns-clause-told
 returns-clause-told c =
@@ -21,7 +22,8 @@ returns-clause-told c =
     let n = c.free_colour.new.self in
     let k = c.in_ok-colour.ensures.kept in
     let first = row_bounds ts c.args.width c.args.row c.min-start.result c.min-end.result c.min-start.ensures c.min-end.ensures in
-    row_told ts c.args.width c.args.colours.now c.args.row c.requires.row m c.requires.told c.min-start.result c.min-end.result first c.requires.targets c.in_ok-colour.colour c.in_ok-colour.ensures.below c.in_ok-colour.ensures.free
+    row_told ts c.args.width c.args.colours.now c.args.row c.requires.row m c.requires.told c.min-start.result c.min-end.result first
+        c.requires.targets c.in_ok-colour.colour c.in_ok-colour.ensures.below c.in_ok-colour.ensures.free
     c.add.new.self (c.in_ok-add.ensures.length ∙ ap (λ v. length v.items) k.0)
     (added_kept m n c.add.new.self (λ t v b. (32 * v + b ≡ c.in_ok-colour.colour) × ((x : ℕ) × (c.min-start.result ≤ x) × (x < c.min-end.result) × (get_or ts x 0 ≡ t))) k c.in_ok-add.ensures.added)
 

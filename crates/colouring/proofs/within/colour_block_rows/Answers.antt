@@ -8,7 +8,10 @@ colour_rows-requires-clause-few c =
     omega (arith, few, c.ranges.places.fits)
 
 pub colour_rows-requires-clause-small : goal.colour_rows-requires-clause-small
-colour_rows-requires-clause-small c = steps_fit (length c.args.colours.now) c.args.size c.args.places c.args.width c.min.result c.min.ensures (λ b l. (c.requires.count b).0 l) (omega (arith, c.requires.table, c.requires.few))
+colour_rows-requires-clause-small c = steps_fit (length c.args.colours.now) c.args.size c.args.places c.args.width c.min.result
+    c.min.ensures (λ b l. (c.requires.count b).0 l) (omega (arith, c.requires.table, c.requires.few))
 
 pub returns : goal.returns
-returns c = record { least = blocks_least c.args.table.now c.args.width c.args.size c.args.places c.min.result c.min.ensures c.requires.table (length c.args.colours.now) c.colour_rows.new.colours (λ b l. (c.requires.count b).0 l) c.in_ok-colour_rows.ensures.least }
+returns c = record { least = blocks_least c.args.table.now c.args.width c.args.size c.args.places c.min.result c.min.ensures
+    c.requires.table (length c.args.colours.now) c.colour_rows.new.colours (λ b l. (c.requires.count b).0 l)
+    c.in_ok-colour_rows.ensures.least }

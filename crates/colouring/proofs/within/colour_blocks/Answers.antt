@@ -13,13 +13,16 @@ loop-block-preserved c =
     let last : c.bounds-first.result.1 ≡ min (b * size + size) c.args.places = ap (λ z. z.1) c.bounds-first.ensures.value in
     let next : (b + 1) * size ≡ b * size + 1 * size = add-mul b 1 size in
     record {
-      least = within_more c.args.table.now c.args.width size c.args.places b c.bounds-first.result.0 c.bounds-first.result.1 c.loop-block.inner c.colour_places.new.inner c.requires.size first last n.least n.others i.least;
+      least = within_more c.args.table.now c.args.width size c.args.places b c.bounds-first.result.0 c.bounds-first.result.1
+          c.loop-block.inner c.colour_places.new.inner c.requires.size first last n.least n.others i.least;
       clear = n.clear;
       room = n.room ∙ i.room;
     }
 
 pub returns-clause-least : goal.returns-clause-least
 returns-clause-least c = λ p l. c.loop-block.invariant.least p (⊎_elim
-    (λ (m : c.loop-block.block * c.args.size < c.args.places). absurd (let e : c.count-block-end.result ≤ c.loop-block.block = c.loop-block-test.false in let n : c.loop-block.block < c.count-block-end.result = (c.count-block-end.ensures c.loop-block.block).1 m in omega arith))
+    (λ (m : c.loop-block.block * c.args.size < c.args.places). absurd
+        (let e : c.count-block-end.result ≤ c.loop-block.block = c.loop-block-test.false in
+        let n : c.loop-block.block < c.count-block-end.result = (c.count-block-end.ensures c.loop-block.block).1 m in omega arith))
     (λ (m : c.args.places ≤ c.loop-block.block * c.args.size). omega arith)
     (cases_lt (c.loop-block.block * c.args.size) c.args.places)) l

@@ -215,7 +215,9 @@ module _ (b : BoundValue) (site : SiteValue) (e : ℕ) (k : RKernel) (consts : L
       (placed.apart (get_or cells i no_cell) (get_or cells j no_cell) (among_at cells i (in_cells i li)) (among_at cells j (in_cells j lj))
       (sym (stand i li) ∙ (same ∙ stand j lj)))
 
-  counted : (xs : List Arg) (a : ℕ) → (target_at (map (λ x. Rattle.run_model.specs.Windows.window_of b (targets b site.args e) (reached b e x)) xs) a).count ≡ (target_at (map target_of (map (arg_place b site.args e place) xs)) a).count
+  counted : (xs : List Arg) (a : ℕ) →
+      (target_at (map (λ x. Rattle.run_model.specs.Windows.window_of b (targets b site.args e) (reached b e x)) xs) a).count ≡
+      (target_at (map target_of (map (arg_place b site.args e place) xs)) a).count
   counted [] a = refl
   counted (x ∷ xs) zero = refl
   counted (x ∷ xs) (suc a) = counted xs a

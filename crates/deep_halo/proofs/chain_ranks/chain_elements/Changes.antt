@@ -95,14 +95,18 @@ module _ (ch : Change) (plain : (z : ℤ) (m : ℕ) (c : Cell) → ch None z m c
           ∙ ap (λ t. ch t (g r (cell_in (Whole v) n.component)) r (cell_in (Whole v) n.component)) how
           ∙ ap₂ (λ x y. ch (reduced_by all n.variable) (g x y) x y) (sym em) cell
           ∙ once ev
-          ∙ sym (ap later (ap₂ (λ x y. x && y) q.0 (any_taken (is_on n.variable) all i (Global v a) lt is ∙ ap (λ t. list_any (is_on n.variable) (take i all) || t) q.1 ∙ or_true (list_any (is_on n.variable) (take i all)))))
+          ∙ sym (ap later (ap₂ (λ x y. x && y) q.0
+              (any_taken (is_on n.variable) all i (Global v a) lt is ∙ ap (λ t. list_any (is_on n.variable) (take i all) || t) q.1
+              ∙ or_true (list_any (is_on n.variable) (take i all)))))
 
       drop_it : (x l y : Bool) → (x && y) ≡ false → (x && (l || y)) ≡ (x && l)
       drop_it false l y e = refl
       drop_it true l y e = ap (λ t. l || t) e ∙ or-false l
 
       elsewhere : (nat_eq m r && nat_eq n.variable v) ≡ false → now (nat_eq m r && nat_eq n.variable v) ≡ later (nat_eq m r && list_any (is_on n.variable) (take (i + 1) all))
-      elsewhere h = ap now h ∙ ap later (sym (ap (λ t. nat_eq m r && t) (any_taken (is_on n.variable) all i (Global v a) lt is) ∙ drop_it (nat_eq m r) (list_any (is_on n.variable) (take i all)) (nat_eq n.variable v) h))
+      elsewhere h = ap now h ∙ ap later
+          (sym (ap (λ t. nat_eq m r && t) (any_taken (is_on n.variable) all i (Global v a) lt is)
+          ∙ drop_it (nat_eq m r) (list_any (is_on n.variable) (take i all)) (nat_eq n.variable v) h))
 
     by : (x : Arg) → get_or all i no_arg ≡ x → (d : Cell) → changed_by ch r x g m d ≡ changed_all ch r all (take (i + 1) all) p m d
     by (Dat d v a) is (Data x) = refl

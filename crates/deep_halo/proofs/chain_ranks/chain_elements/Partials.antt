@@ -45,7 +45,8 @@ module _ (b : BoundValue) where
       omega (arith, m, mul_comm (memory_length vars) (suc ranks), mul_comm (memory_length b) (suc ranks))
 
 -- a variable's amounts are merged
-pub amounts_merged : (b : BoundValue) (ranks r v : ℕ) (a : Access) (o : Reduction) (old new memory : List ℤ) (f p : Values) (at from count : ℕ) → r < ranks → v < length b.vars → reduction_of a ≡ Some o
+pub amounts_merged : (b : BoundValue) (ranks r v : ℕ) (a : Access) (o : Reduction) (old new memory : List ℤ) (f p : Values)
+    (at from count : ℕ) → r < ranks → v < length b.vars → reduction_of a ≡ Some o
     → BlocksHold b ranks memory f → BlocksHold (of_vars b.vars) ranks old p → length new ≡ length old
     → at ≡ in_block (of_vars b.vars) r (cell_in (Whole v) 0) → from ≡ in_block b r (cell_in (Whole v) 0) → count ≡ var_width b v
     → ((i : ℕ) → i < count → get_or new (at + i) (pos 0) ≡ merged o (get_or old (at + i) (pos 0)) (get_or memory (from + i) (pos 0)))
@@ -57,8 +58,11 @@ amounts_merged b ranks r v a o old new memory f p at from count lr lv how holds 
     let li : i < count = subst (λ k. i < k) (sym w) lt in
     ap (λ k. get_or new (k + i) (pos 0)) (sym e) ∙ there i li
     ∙ ap₂ (λ x y. merged o x y)
-    (ap (λ k. get_or old k (pos 0)) (ap (λ k. k + i) e ∙ sym (block_follow (of_vars b.vars) r (Whole v) i)) ∙ parts.cells r (cell_in (Whole v) i) (omega arith) (has_of (of_vars b.vars) (Whole v) i lv lt))
+    (ap (λ k. get_or old k (pos 0)) (ap (λ k. k + i) e ∙ sym (block_follow (of_vars b.vars) r (Whole v) i))
+        ∙ parts.cells r (cell_in (Whole v) i) (omega arith) (has_of (of_vars b.vars) (Whole v) i lv lt))
     (ap (λ k. get_or memory k (pos 0)) (ap (λ k. k + i) g ∙ sym (block_follow b r (Whole v) i)) ∙ holds.cells r (cell_in (Whole v) i) (omega arith) (has_of b (Whole v) i lv lt))
     ∙ sym (ap (λ t. merge_at t (p r (cell_in (Whole v) i)) (f r (cell_in (Whole v) i))) how))
-    (λ k l. others k (subst (λ j. (k < j) ⊎ (j + count ≤ k)) (sym e) (subst (λ j. (k < in_block (of_vars b.vars) r (cell_in (Whole v) 0)) ⊎ (in_block (of_vars b.vars) r (cell_in (Whole v) 0) + j ≤ k)) (sym w) l)))
+    (λ k l. others k (subst (λ j. (k < j) ⊎ (j + count ≤ k)) (sym e)
+        (subst (λ j. (k < in_block (of_vars b.vars) r (cell_in (Whole v) 0)) ⊎ (in_block (of_vars b.vars) r (cell_in (Whole v) 0) + j ≤ k))
+        (sym w) l)))
     parts

@@ -86,7 +86,9 @@ globals_more ranks r all f i other apart lt m c = by (get_or all i no_arg) refl 
             (ne_eqb ranks r (λ q. other (sym q)))
 
         value : (x : VarCell)
-            → cond (nat_eq m r && nat_eq x.variable v) (window_of (reduction_of a) (with_globals ranks r all (take i all) f ranks (cell_in (Whole v) x.component))) (with_globals ranks r all (take i all) f m (Variable x))
+            → cond (nat_eq m r && nat_eq x.variable v)
+                (window_of (reduction_of a) (with_globals ranks r all (take i all) f ranks (cell_in (Whole v) x.component)))
+                (with_globals ranks r all (take i all) f m (Variable x))
             ≡ cond (nat_eq m r && nat_eq x.variable v) (window_of (reduced_by all x.variable) (f ranks (Variable x))) (with_globals ranks r all (take i all) f m (Variable x))
         value x = ⊎_elim
             (λ (h : (nat_eq m r && nat_eq x.variable v) ≡ true).

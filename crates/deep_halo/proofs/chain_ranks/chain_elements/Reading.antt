@@ -63,7 +63,8 @@ module _ (b : BoundValue) (fits : ConstantsFit b) (values : VarCell → ℤ) whe
       ∙ sym (get_or-map values (constants b) j no_constant (pos 0) lc))
 
 -- the cells of a variable behind the ranks' blocks
-pub last_cells : (b : BoundValue) (ranks v from count : ℕ) (memory new : List ℤ) (f : Values) (first : ℕ) → v < length b.vars → BlocksHold b ranks memory f → from ≡ in_block b ranks (cell_in (Whole v) 0) → count ≡ var_width b v
+pub last_cells : (b : BoundValue) (ranks v from count : ℕ) (memory new : List ℤ) (f : Values) (first : ℕ) → v < length b.vars
+    → BlocksHold b ranks memory f → from ≡ in_block b ranks (cell_in (Whole v) 0) → count ≡ var_width b v
     → ((i : ℕ) → i < count → get_or new (first + i) (pos 0) ≡ get_or memory (from + i) (pos 0))
     → (i : ℕ) → i < count → get_or new (first + i) (pos 0) ≡ f ranks (Variable (record { variable = v; component = i }))
 last_cells b ranks v from count memory new f first lv holds at wide copied i li =

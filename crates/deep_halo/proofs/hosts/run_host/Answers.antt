@@ -50,7 +50,8 @@ run_act-requires c =
       begins = subst (λ (l : List VarValue). VarsBegin l c.deref-3.result.now) vars (subst (VarsBegin b.vars) (sym c.deref-3.ensures.value) c.requires.is.sound.layout.vars);
       fits = subst (λ (l : List VarValue). ActFits (of_vars l) (told_act_of c.args.act.now)) vars
           (plain_fits b (told_act_of c.args.act.now) (not_print c.args.act.now c.deref.result.now c.deref.ensures c.in_default.not-Print) c.requires.fits);
-      cells = tail_is b o _ (first_at b o c.args.program.now.blocks.now.layout.now c.requires.is.sound.layout) c.args.memory.now c.requires.memory ∙ ap (λ (l : List VarValue). memory_length (of_vars l)) vars;
+      cells = tail_is b o _ (first_at b o c.args.program.now.blocks.now.layout.now c.requires.is.sound.layout) c.args.memory.now
+          c.requires.memory ∙ ap (λ (l : List VarValue). memory_length (of_vars l)) vars;
     }
 
 pub returns : goal.returns
@@ -69,7 +70,8 @@ returns c =
     let vars : map var_of c.deref-2.result.now ≡ b.vars = ap (map var_of) c.deref-2.ensures.value in
     let plain = not_print c.args.act.now c.deref.result.now c.deref.ensures c.in_default.not-Print in
     IfOk-weaker c.run_act.result
-    (λ r. (s : Store) → Holds (of_vars (map var_of c.deref-2.result.now)) tail s → ActEnds (of_vars (map var_of c.deref-2.result.now)) cells s said says r (act_run (of_vars (map var_of c.deref-2.result.now)) s a))
+    (λ r. (s : Store) → Holds (of_vars (map var_of c.deref-2.result.now)) tail s
+        → ActEnds (of_vars (map var_of c.deref-2.result.now)) cells s said says r (act_run (of_vars (map var_of c.deref-2.result.now)) s a))
     (λ r. (s : Store) → OwnersStand b o old s → HostEnds b o old (put_mid first (length old - first) old cells) said says r (act_run b s a))
     (λ r ends s stand.
     host_ends b o first at old c.requires.memory cells s said says r (act_run b s a)

@@ -19,7 +19,9 @@ push_each-requires c =
     let below = c.requires.owners at within in
     record {
       few = omega (arith, c.loop-element.auto.lists, c.requires.few);
-      ranks = λ r l t. (let q : owner ≡ r = eqb-true owner r (sym (alone c.empty.result c.with.result owner c.empty.ensures c.with.ensures r) ∙ t) in omega (arith, q, below, c.loop-element.auto.lists));
+      ranks = λ r l t. (let q : owner ≡ r = eqb-true owner r
+          (sym (alone c.empty.result c.with.result owner c.empty.ensures c.with.ensures r) ∙ t) in
+          omega (arith, q, below, c.loop-element.auto.lists));
     }
 
 pub loop-element-preserved : goal.loop-element-preserved

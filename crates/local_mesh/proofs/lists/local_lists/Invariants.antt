@@ -5,4 +5,6 @@ use Rattle.local_mesh.specs.Lists.{IsLocalLists}
 use Rattle.local_mesh.proofs.lists.local_lists.Given as goal
 
 abbrev pub invariant-loop-set : goal.invariant-loop-set
-invariant-loop-set l = (length l.lists.items ≡ l.set) × ((s : ℕ) (e : LocalLists) → s < l.set → (d : SetHalo) → IsLocalLists l.mesh l.owners l.meshes s (get_or l.halos.sets.items s d) (get_or l.lists.items s e))
+invariant-loop-set l = (length l.lists.items ≡ l.set)
+    × ((s : ℕ) (e : LocalLists) → s < l.set → (d : SetHalo)
+    → IsLocalLists l.mesh l.owners l.meshes s (get_or l.halos.sets.items s d) (get_or l.lists.items s e))

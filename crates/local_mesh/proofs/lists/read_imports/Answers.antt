@@ -15,7 +15,9 @@ index-requires c =
     omega (arith, c.lists-item.result.ok.0)
 
 -- the list of the rank, of those that were read
-list_is : (exports : List (Vec (Vec ℕ Global) Global)) (a rank : ℕ) (lists : Vec (Vec ℕ Global) Global) (v : Vec ℕ Global) (now : List ℕ) → a < length exports → rank < length (rows exports a) → lists ≡ get_or exports a lists → v ≡ get_or lists.items rank v → now ≡ v.items → now ≡ row (rows exports a) rank
+list_is : (exports : List (Vec (Vec ℕ Global) Global)) (a rank : ℕ) (lists : Vec (Vec ℕ Global) Global) (v : Vec ℕ Global) (now : List ℕ)
+    → a < length exports → rank < length (rows exports a) → lists ≡ get_or exports a lists → v ≡ get_or lists.items rank v → now ≡ v.items
+    → now ≡ row (rows exports a) rank
 list_is exports a rank lists v now la lr el ev en =
     let e = rows_read exports a lists la el in
     let l : rank < length lists.items = subst (λ (z : List (Vec ℕ Global)). rank < length z) (sym e) lr in
@@ -24,14 +26,16 @@ list_is exports a rank lists v now la lr el ev en =
 pub locals_of-requires : goal.locals_of-requires
 locals_of-requires c =
     let a : ℕ = c.loop-lists.lists-index in
-    let e = list_is c.args.exports.now a c.args.rank c.lists-item.result c.index.result.now c.deref.result.now c.loop-lists-test.true (c.requires.rank a c.loop-lists-test.true) c.lists-item.is c.index.ensures c.deref.ensures.value in
+    let e = list_is c.args.exports.now a c.args.rank c.lists-item.result c.index.result.now c.deref.result.now c.loop-lists-test.true
+        (c.requires.rank a c.loop-lists-test.true) c.lists-item.is c.index.ensures c.deref.ensures.value in
     subst (λ (z : List ℕ). (k : ℕ) → k < length z → get_or z k 0 < length c.args.table.now) (sym e) (c.requires.within a c.loop-lists-test.true)
 
 pub loop-lists-preserved : goal.loop-lists-preserved
 loop-lists-preserved c =
     let a : ℕ = c.loop-lists.lists-index in
     let xs = c.loop-lists.found.items in
-    let e = list_is c.args.exports.now a c.args.rank c.lists-item.result c.index.result.now c.deref.result.now c.loop-lists-test.true (c.requires.rank a c.loop-lists-test.true) c.lists-item.is c.index.ensures c.deref.ensures.value in
+    let e = list_is c.args.exports.now a c.args.rank c.lists-item.result c.index.result.now c.deref.result.now c.loop-lists-test.true
+        (c.requires.rank a c.loop-lists-test.true) c.lists-item.is c.index.ensures c.deref.ensures.value in
     let v = c.in_ok-locals_of.field-0 in
     let read : AreRead c.args.table.now (row (rows c.args.exports.now a) c.args.rank) v.items =
     subst (λ (z : List ℕ). AreRead c.args.table.now z v.items) e (record { count = c.in_ok-locals_of.ensures.length; each = c.in_ok-locals_of.ensures.at }) in

@@ -37,7 +37,8 @@ returns c =
       exports = record {
         count = count ∙ is.export_count;
         counts = λ a la. (read a (within a la)).count ∙ is.export_counts a la;
-        each = λ a r la lr. export_locals g o c.args.set h is c.args.meshes.now t c.in_ok-at_owner.ensures a r la lr (row (rows v a) r) ((read a (within a la)).each r (omega (arith, is.export_counts a la)));
+        each = λ a r la lr. export_locals g o c.args.set h is c.args.meshes.now t c.in_ok-at_owner.ensures a r la lr (row (rows v a) r)
+            ((read a (within a la)).each r (omega (arith, is.export_counts a la)));
       };
       imports = c.in_ok-imports.ensures;
     }

@@ -37,18 +37,22 @@ told : (v : Option (Vec ℕ Global)) (xs ys : List ℕ) → ys ≡ xs → IfSome
 told (Some c) xs ys e h = subst (λ (z : List ℕ). AreSorted z c.items) (sym e) h
 told None xs ys e h = h
 
-rising : (v : Option (Vec ℕ Global)) (n : ℕ) (a b c ys : List ℕ) → ys ≡ a ++ b ++ c → AreParts n (a ++ b ++ c) → IfNone v (Rises a × Rises b × Rises c) → IfNone v (AreStretches ys (length a) (length a + length b))
+rising : (v : Option (Vec ℕ Global)) (n : ℕ) (a b c ys : List ℕ) → ys ≡ a ++ b ++ c → AreParts n (a ++ b ++ c)
+    → IfNone v (Rises a × Rises b × Rises c) → IfNone v (AreStretches ys (length a) (length a + length b))
 rising (Some d) n a b c ys e p h = h
 rising None n a b c ys e p h = are_stretches a b c n ys e p h
 
 pub new-requires-clause-parts : goal.new-requires-clause-parts
-new-requires-clause-parts c = roomier (length c.args.core.now) (length c.args.scratch.now) (c.args.own.now ++ c.args.exec.now ++ c.args.nonexec.now) c.deref-2.result.now c.requires.parts (c.deref-2.ensures.value ∙ c.in_ok-numbers.ensures) c.requires.room
+new-requires-clause-parts c = roomier (length c.args.core.now) (length c.args.scratch.now)
+    (c.args.own.now ++ c.args.exec.now ++ c.args.nonexec.now) c.deref-2.result.now c.requires.parts
+    (c.deref-2.ensures.value ∙ c.in_ok-numbers.ensures) c.requires.room
 
 pub new-requires-clause-sorted : goal.new-requires-clause-sorted
 new-requires-clause-sorted c = told c.args.copies (c.args.own.now ++ c.args.exec.now ++ c.args.nonexec.now) c.deref-2.result.now (c.deref-2.ensures.value ∙ c.in_ok-numbers.ensures) c.requires.sorted
 
 pub new-requires-clause-rising : goal.new-requires-clause-rising
-new-requires-clause-rising c = rising c.args.copies (length c.args.core.now) c.args.own.now c.args.exec.now c.args.nonexec.now c.deref-2.result.now (c.deref-2.ensures.value ∙ c.in_ok-numbers.ensures) c.requires.parts c.requires.rising
+new-requires-clause-rising c = rising c.args.copies (length c.args.core.now) c.args.own.now c.args.exec.now c.args.nonexec.now
+    c.deref-2.result.now (c.deref-2.ensures.value ∙ c.in_ok-numbers.ensures) c.requires.parts c.requires.rising
 
 pub returns : goal.returns
 returns c =
@@ -59,5 +63,7 @@ returns c =
       nonexec = refl;
       original = c.new-2.ensures ∙ c.in_ok-numbers.ensures;
       core_count = c.in_ok-core.ensures.length ∙ ap (length {A = ℕ}) e;
-      core = subst (λ (z : List ℕ). (k : ℕ) → k < length z → get_or c.in_ok-core.core.items k false ≡ (ltb k (length c.args.own.now) && get_or c.args.core.now (get_or z k 0) false)) e c.in_ok-core.ensures.flags;
+      core = subst (λ (z : List ℕ). (k : ℕ) → k < length z
+          → get_or c.in_ok-core.core.items k false ≡ (ltb k (length c.args.own.now) && get_or c.args.core.now (get_or z k 0) false)) e
+          c.in_ok-core.ensures.flags;
     }

@@ -8,7 +8,9 @@ use Rattle.local_mesh.specs.Parts.{AreSorted}
 use Rattle.local_mesh.proofs.numbers.set_of_rank.Goals as goal
 
 -- copies that are told are those of the groups
-told : (v : Option (Vec ℕ Global)) (lists : Option (Vec (Vec ℕ Global) Global)) (r : ℕ) (xs : List ℕ) → IfSome v (λ c. (d : Vec (Vec ℕ Global) Global) × (lists ≡ Some d) × (c.items ≡ row d.items r)) → IfSome lists (λ d. (r < length d.items) × AreSorted xs (row d.items r)) → IfSome v (λ c. AreSorted xs c.items)
+told : (v : Option (Vec ℕ Global)) (lists : Option (Vec (Vec ℕ Global) Global)) (r : ℕ) (xs : List ℕ)
+    → IfSome v (λ c. (d : Vec (Vec ℕ Global) Global) × (lists ≡ Some d) × (c.items ≡ row d.items r))
+    → IfSome lists (λ d. (r < length d.items) × AreSorted xs (row d.items r)) → IfSome v (λ c. AreSorted xs c.items)
 told (Some c) lists r xs h k =
     let s : (r < length h.0.items) × AreSorted xs (row h.0.items r) = rw h.1 at k in
     subst (λ (z : List ℕ). AreSorted xs z) (sym h.2) s.1

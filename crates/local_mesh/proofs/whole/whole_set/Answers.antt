@@ -7,7 +7,9 @@ use Rattle.local_mesh.specs.Parts.{IsKept, AreSorted}
 use Rattle.local_mesh.proofs.OneRank.{numbering_parts, numbering_sorted, kept_rises}
 use Rattle.local_mesh.proofs.whole.whole_set.Goals as goal
 
-sorted : (v : Option (Vec ℕ Global)) (n : ℕ) (order : List ℕ) → IsNumbering n order → IfSome v (λ c. (length c.items ≡ length order) × IsKept (length order) (λ k. get_or c.items k 0)) → IfSome v (λ c. AreSorted (order ++ [] ++ []) c.items)
+sorted : (v : Option (Vec ℕ Global)) (n : ℕ) (order : List ℕ) → IsNumbering n order
+    → IfSome v (λ c. (length c.items ≡ length order) × IsKept (length order) (λ k. get_or c.items k 0))
+    → IfSome v (λ c. AreSorted (order ++ [] ++ []) c.items)
 sorted (Some c) n order perm h = numbering_sorted n order c.items perm (h.0 ∙ perm.length) (subst (λ z. IsKept z (λ k. get_or c.items k 0)) perm.length h.1)
 sorted None n order perm h = h
 

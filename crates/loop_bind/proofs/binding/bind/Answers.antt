@@ -15,7 +15,8 @@ use Rattle.loop_bind.specs.Bound.{bound}
 use Rattle.loop_bind.specs.Resolvable.{BoundProgramsFit}
 use Rattle.loop_bind.proofs.binding.bind.Goals as goal
 
-fits : (p : ProgramTree) (r : Resolved) (es : List Named) (answer : Result Bound BindRefusal) → BoundProgramsFit → IsResolvedSource p r → HaveNumbers es → JudgesBy bound_of answer (bound p r es) → IfOk answer (λ b. Fits (bound_of b))
+fits : (p : ProgramTree) (r : Resolved) (es : List Named) (answer : Result Bound BindRefusal) → BoundProgramsFit → IsResolvedSource p r
+    → HaveNumbers es → JudgesBy bound_of answer (bound p r es) → IfOk answer (λ b. Fits (bound_of b))
 fits p r es (Ok b) law h n j = law p r es (bound_of b) h n j
 fits p r es (Err e) law h n j = tt
 

@@ -8,10 +8,17 @@ use Rattle.main_declarations.specs.Targets.{shape_decl_found}
 use Rattle.main_declarations.proofs.Shapes.{IsReady, map_ready}
 use Rattle.main_declarations.proofs.map_walk.judged_map.Goals as goal
 
-ready : (c : goal.After-unsigned_abs) → IsReady c.args.k.now.mesh (or_zero (set_of (means (declared_of c.args.k.now).names c.args.from.now.name))) (count_of c.args.n) (or_none (array_of c.args.source.now.entries.now.entries c.args.array.now.name (means (declared_of c.args.k.now).names c.args.array.now.name))) × (or_zero (set_of (means (declared_of c.args.k.now).names c.args.to.now.name)) < set_count c.args.k.now.mesh)
+ready : (c : goal.After-unsigned_abs) → IsReady c.args.k.now.mesh
+    (or_zero (set_of (means (declared_of c.args.k.now).names c.args.from.now.name))) (count_of c.args.n)
+    (or_none (array_of c.args.source.now.entries.now.entries c.args.array.now.name
+    (means (declared_of c.args.k.now).names c.args.array.now.name)))
+    × (or_zero (set_of (means (declared_of c.args.k.now).names c.args.to.now.name)) < set_count c.args.k.now.mesh)
 ready c =
-    let none : first_of (shape_decl_found c.args.source.now.places.now c.args.source.now.entries.now.entries (declared_of c.args.k.now) c.args.is_nested c.args.t c.args.from.now c.args.to.now c.args.n c.args.array.now) ≡ None = c.in_ok-first.ensures.shape (search rules) in
-    map_ready c.args.source.now.places.now c.args.source.now.entries.now.entries (declared_of c.args.k.now) c.requires c.args.is_nested c.args.t c.args.n c.args.array.now c.args.from.now c.args.to.now none
+    let none : first_of (shape_decl_found c.args.source.now.places.now c.args.source.now.entries.now.entries (declared_of c.args.k.now)
+        c.args.is_nested c.args.t c.args.from.now c.args.to.now c.args.n c.args.array.now) ≡ None =
+        c.in_ok-first.ensures.shape (search rules) in
+    map_ready c.args.source.now.places.now c.args.source.now.entries.now.entries (declared_of c.args.k.now) c.requires c.args.is_nested
+        c.args.t c.args.n c.args.array.now c.args.from.now c.args.to.now none
 
 pub add_map-requires-clause-from : goal.add_map-requires-clause-from
 add_map-requires-clause-from c =

@@ -7,10 +7,16 @@ use Rattle.main_declarations.specs.Declarations.{dat_decl_found}
 use Rattle.main_declarations.proofs.Shapes.{IsReady, dat_ready}
 use Rattle.main_declarations.proofs.mesh_walk.judged_dat.Goals as goal
 
-ready : (c : goal.After-unsigned_abs) → IsReady c.args.k.now.mesh (or_zero (set_of (means (declared_of c.args.k.now).names c.args.set.now.name))) (count_of c.args.n) (or_none (array_of c.args.source.now.entries.now.entries c.args.array.now.name (means (declared_of c.args.k.now).names c.args.array.now.name)))
+ready : (c : goal.After-unsigned_abs) → IsReady c.args.k.now.mesh
+    (or_zero (set_of (means (declared_of c.args.k.now).names c.args.set.now.name))) (count_of c.args.n)
+    (or_none (array_of c.args.source.now.entries.now.entries c.args.array.now.name
+    (means (declared_of c.args.k.now).names c.args.array.now.name)))
 ready c =
-    let none : first_of (dat_decl_found c.args.source.now.places.now c.args.source.now.entries.now.entries (declared_of c.args.k.now) c.args.is_nested c.args.t c.args.set.now c.args.n c.args.l.now c.args.array.now) ≡ None = sym c.in_ok-first.ensures ∙ search rules in
-    dat_ready c.args.source.now.places.now c.args.source.now.entries.now.entries (declared_of c.args.k.now) c.requires c.args.is_nested c.args.t c.args.n c.args.array.now c.args.set.now c.args.l.now none
+    let none : first_of (dat_decl_found c.args.source.now.places.now c.args.source.now.entries.now.entries (declared_of c.args.k.now)
+        c.args.is_nested c.args.t c.args.set.now c.args.n c.args.l.now c.args.array.now) ≡ None = sym c.in_ok-first.ensures ∙ search rules
+        in
+    dat_ready c.args.source.now.places.now c.args.source.now.entries.now.entries (declared_of c.args.k.now) c.requires c.args.is_nested
+        c.args.t c.args.n c.args.array.now c.args.set.now c.args.l.now none
 
 pub add_dat-requires-clause-set : goal.add_dat-requires-clause-set
 add_dat-requires-clause-set c =

@@ -11,7 +11,8 @@ decreases-judge_expr l = size (expr_of l.expr.now)
 
 abbrev pub invariant-loop-rest : goal.invariant-loop-rest
 invariant-loop-rest l = record {
-  kept : least_from l.first (expr_breaches l.in_kernel (scope l.known.file.now.entries l.known.own.now.entries) (expr_of l.rest)) ≡ least_from l.initial.first (expr_breaches l.in_kernel (scope l.known.file.now.entries l.known.own.now.entries) (expr_of l.fn.expr));
+  kept : least_from l.first (expr_breaches l.in_kernel (scope l.known.file.now.entries l.known.own.now.entries) (expr_of l.rest)) ≡
+      least_from l.initial.first (expr_breaches l.in_kernel (scope l.known.file.now.entries l.known.own.now.entries) (expr_of l.fn.expr));
   no_larger : size (expr_of l.rest) ≤ size (expr_of l.fn.expr);
 }
 

@@ -19,7 +19,8 @@ decreases-value l = 2 * size (expr_of l.expr.now)
 
 abbrev pub invariant-chain_value-down : goal.invariant-chain_value-down
 invariant-chain_value-down l = record {
-  whole : over l.operations.items (value l.places (scope l.known.file.now.entries l.known.own.now.entries) (expr_of l.rest)) ≡ value l.places (scope l.known.file.now.entries l.known.own.now.entries) (expr_of l.expr);
+  whole : over l.operations.items (value l.places (scope l.known.file.now.entries l.known.own.now.entries) (expr_of l.rest)) ≡ value
+      l.places (scope l.known.file.now.entries l.known.own.now.entries) (expr_of l.expr);
   fits : AllFit l.operations.items;
   no_larger : size (expr_of l.rest) ≤ size (expr_of l.expr);
 }

@@ -10,7 +10,10 @@ abbrev pub invariant-loop-part : goal.invariant-loop-part
 invariant-loop-part l = record {
   names : after_tops l.named.keys l.walk.names.entries (map top_of (drop l.part-index l.parts)) ≡ after_tops l.named.keys l.initial.walk.names.entries (map top_of l.parts);
   cells : constant_cells l.walk.names.entries ≡ l.walk.constant_cells;
-  kernels : map rkernel_of l.walk.kernels.items ++ kernels l.named.keys l.places l.walk.names.entries (map top_of (drop l.part-index l.parts)) ≡ map rkernel_of l.initial.walk.kernels.items ++ kernels l.named.keys l.places l.initial.walk.names.entries (map top_of l.parts);
+  kernels : map rkernel_of l.walk.kernels.items ++ kernels l.named.keys l.places l.walk.names.entries
+      (map top_of (drop l.part-index l.parts)) ≡ map rkernel_of l.initial.walk.kernels.items ++ kernels l.named.keys l.places
+      l.initial.walk.names.entries (map top_of l.parts);
   fits : KernelsFit (map rkernel_of l.walk.kernels.items);
-  first : least_from l.walk.first (tops_breaches l.named.keys l.walk.names.entries (map top_of (drop l.part-index l.parts))) ≡ least_from l.initial.walk.first (tops_breaches l.named.keys l.initial.walk.names.entries (map top_of l.parts));
+  first : least_from l.walk.first (tops_breaches l.named.keys l.walk.names.entries (map top_of (drop l.part-index l.parts))) ≡ least_from
+      l.initial.walk.first (tops_breaches l.named.keys l.initial.walk.names.entries (map top_of l.parts));
 }

@@ -32,7 +32,11 @@ hosts-loop-statement-preserved t c =
     let i = c.loop-statement.invariant in
     record {
       own = hosts_own c.loop-statement.main.own.entries _ c.args.all.now c.loop-statement.statement-index c.statement-item.result c.loop-statement-test.true c.statement-item.is e.own ∙ i.own;
-      fixed = hosts_fixed c.args.file.now.entries c.loop-statement.main.own.entries _ c.loop-statement.main.fixed.keys _ c.args.all.now c.loop-statement.statement-index c.statement-item.result c.loop-statement-test.true c.statement-item.is e.own e.fixed ∙ i.fixed;
-      named = hosts_named c.loop-statement.main.own.entries _ c.loop-statement.main.named.keys _ c.args.all.now c.loop-statement.statement-index c.statement-item.result c.loop-statement-test.true c.statement-item.is e.own e.named ∙ i.named;
-      first = hosts_first c.args.file.now.entries c.loop-statement.main.own.entries _ c.loop-statement.main.fixed.keys _ c.args.all.now c.loop-statement.statement-index c.statement-item.result c.loop-statement.main.first _ c.loop-statement-test.true c.statement-item.is e.first e.own e.fixed ∙ i.first;
+      fixed = hosts_fixed c.args.file.now.entries c.loop-statement.main.own.entries _ c.loop-statement.main.fixed.keys _ c.args.all.now
+          c.loop-statement.statement-index c.statement-item.result c.loop-statement-test.true c.statement-item.is e.own e.fixed ∙ i.fixed;
+      named = hosts_named c.loop-statement.main.own.entries _ c.loop-statement.main.named.keys _ c.args.all.now
+          c.loop-statement.statement-index c.statement-item.result c.loop-statement-test.true c.statement-item.is e.own e.named ∙ i.named;
+      first = hosts_first c.args.file.now.entries c.loop-statement.main.own.entries _ c.loop-statement.main.fixed.keys _ c.args.all.now
+          c.loop-statement.statement-index c.statement-item.result c.loop-statement.main.first _ c.loop-statement-test.true
+          c.statement-item.is e.first e.own e.fixed ∙ i.first;
     }

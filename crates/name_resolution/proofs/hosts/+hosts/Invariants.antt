@@ -8,7 +8,10 @@ use Rattle.name_resolution.proofs.hosts.+hosts.Given as goal
 abbrev pub invariant-hosts-loop-statement : goal.invariant-hosts-loop-statement
 invariant-hosts-loop-statement l = record {
   own : own_after_all l.main.own.entries (hosts_of (drop l.statement-index l.all)) ≡ own_after_all l.initial.main.own.entries (hosts_of l.all);
-  fixed : fixed_after_all l.file.entries l.main.own.entries l.main.fixed.keys (hosts_of (drop l.statement-index l.all)) ≡ fixed_after_all l.file.entries l.initial.main.own.entries l.initial.main.fixed.keys (hosts_of l.all);
+  fixed : fixed_after_all l.file.entries l.main.own.entries l.main.fixed.keys (hosts_of (drop l.statement-index l.all)) ≡ fixed_after_all
+      l.file.entries l.initial.main.own.entries l.initial.main.fixed.keys (hosts_of l.all);
   named : named_after_all l.main.own.entries l.main.named.keys (hosts_of (drop l.statement-index l.all)) ≡ named_after_all l.initial.main.own.entries l.initial.main.named.keys (hosts_of l.all);
-  first : least_from l.main.first (hosts_breaches l.file.entries l.main.own.entries l.main.fixed.keys (hosts_of (drop l.statement-index l.all))) ≡ least_from l.initial.main.first (hosts_breaches l.file.entries l.initial.main.own.entries l.initial.main.fixed.keys (hosts_of l.all));
+  first : least_from l.main.first
+      (hosts_breaches l.file.entries l.main.own.entries l.main.fixed.keys (hosts_of (drop l.statement-index l.all))) ≡ least_from
+      l.initial.main.first (hosts_breaches l.file.entries l.initial.main.own.entries l.initial.main.fixed.keys (hosts_of l.all));
 }

@@ -8,5 +8,6 @@ loop-declr-preserved c =
     let i = c.loop-declr.invariant in
     record {
       own = declrs_own c.loop-declr.own.entries _ c.args.is_const c.args.declrs.now c.loop-declr.declr-index c.declr-item.result c.loop-declr-test.true c.declr-item.is e.own ∙ i.own;
-      first = declrs_first c.args.file.now.entries c.loop-declr.own.entries _ c.args.is_const c.args.declrs.now c.loop-declr.declr-index c.declr-item.result c.loop-declr.first _ c.loop-declr-test.true c.declr-item.is e.first e.own ∙ i.first;
+      first = declrs_first c.args.file.now.entries c.loop-declr.own.entries _ c.args.is_const c.args.declrs.now c.loop-declr.declr-index
+          c.declr-item.result c.loop-declr.first _ c.loop-declr-test.true c.declr-item.is e.first e.own ∙ i.first;
     }

@@ -42,8 +42,12 @@ steps-loop-stmt-preserved t c =
     let e = c.in_ok-step.ensures in
     let i = c.loop-stmt.invariant in
     record {
-      steps = steps_turn c.args.places.now c.args.file.now.entries c.loop-stmt.walk.own.entries _ c.loop-stmt.walk.next _ c.args.stmts.now c.loop-stmt.stmt-index c.stmt-item.result c.loop-stmt.steps.items _ c.in_ok-step.step c.loop-stmt-test.true c.stmt-item.is e.step e.own e.next c.in_ok-push.ensures.items ∙ i.steps;
-      first = steps_first c.args.file.now.entries c.loop-stmt.walk.own.entries _ c.loop-stmt.walk.next _ c.args.stmts.now c.loop-stmt.stmt-index c.stmt-item.result c.loop-stmt.walk.first _ c.loop-stmt-test.true c.stmt-item.is e.first e.own e.next ∙ i.first;
+      steps = steps_turn c.args.places.now c.args.file.now.entries c.loop-stmt.walk.own.entries _ c.loop-stmt.walk.next _ c.args.stmts.now
+          c.loop-stmt.stmt-index c.stmt-item.result c.loop-stmt.steps.items _ c.in_ok-step.step c.loop-stmt-test.true c.stmt-item.is e.step
+          e.own e.next c.in_ok-push.ensures.items ∙ i.steps;
+      first = steps_first c.args.file.now.entries c.loop-stmt.walk.own.entries _ c.loop-stmt.walk.next _ c.args.stmts.now
+          c.loop-stmt.stmt-index c.stmt-item.result c.loop-stmt.walk.first _ c.loop-stmt-test.true c.stmt-item.is e.first e.own e.next
+          ∙ i.first;
       own = steps_own c.loop-stmt.walk.own.entries _ c.loop-stmt.walk.next _ c.args.stmts.now c.loop-stmt.stmt-index c.stmt-item.result c.loop-stmt-test.true c.stmt-item.is e.own e.next ∙ i.own;
       next = steps_next c.loop-stmt.walk.next _ c.args.stmts.now c.loop-stmt.stmt-index c.stmt-item.result c.loop-stmt-test.true c.stmt-item.is e.next ∙ i.next;
       fits = fits_push c.loop-stmt.steps.items _ c.in_ok-step.step c.in_ok-push.ensures.items i.fits e.fits;
@@ -53,5 +57,7 @@ steps-loop-stmt-preserved t c =
 pub steps-returns-clause-steps : goal.steps-returns-clause-steps
 steps-returns-clause-steps t c =
     sym (joined_none (rstmts_of c.loop-stmt.steps.items))
-    ∙ ap (λ ss. joined (rstmts_of c.loop-stmt.steps.items) (steps c.args.places.now c.args.file.now.entries c.loop-stmt.walk.own.entries c.loop-stmt.walk.next (stmts_of ss))) (sym (drop_end c.args.stmts.now c.loop-stmt.stmt-index c.loop-stmt-test.false))
+    ∙ ap (λ ss. joined (rstmts_of c.loop-stmt.steps.items)
+        (steps c.args.places.now c.args.file.now.entries c.loop-stmt.walk.own.entries c.loop-stmt.walk.next (stmts_of ss)))
+        (sym (drop_end c.args.stmts.now c.loop-stmt.stmt-index c.loop-stmt-test.false))
     ∙ c.loop-stmt.invariant.steps

@@ -11,9 +11,14 @@ loop-declr-preserved c =
     let e = c.in_ok-step.ensures in
     let i = c.loop-declr.invariant in
     record {
-      steps = declrs_turn c.args.places.now c.args.file.now.entries c.loop-declr.walk.own.entries _ c.loop-declr.walk.next _ c.args.declrs.now c.loop-declr.declr-index c.declr-item.result c.loop-declr.steps.items _ c.in_ok-step.step c.loop-declr-test.true c.declr-item.is e.step e.own e.next c.in_ok-push.ensures.items ∙ i.steps;
-      first = declrs_first c.args.file.now.entries c.loop-declr.walk.own.entries _ c.loop-declr.walk.next _ c.args.declrs.now c.loop-declr.declr-index c.declr-item.result c.loop-declr.walk.first _ c.loop-declr-test.true c.declr-item.is e.first e.own e.next ∙ i.first;
-      own = declrs_own c.loop-declr.walk.own.entries _ c.loop-declr.walk.next _ c.args.declrs.now c.loop-declr.declr-index c.declr-item.result c.loop-declr-test.true c.declr-item.is e.own e.next ∙ i.own;
+      steps = declrs_turn c.args.places.now c.args.file.now.entries c.loop-declr.walk.own.entries _ c.loop-declr.walk.next _
+          c.args.declrs.now c.loop-declr.declr-index c.declr-item.result c.loop-declr.steps.items _ c.in_ok-step.step c.loop-declr-test.true
+          c.declr-item.is e.step e.own e.next c.in_ok-push.ensures.items ∙ i.steps;
+      first = declrs_first c.args.file.now.entries c.loop-declr.walk.own.entries _ c.loop-declr.walk.next _ c.args.declrs.now
+          c.loop-declr.declr-index c.declr-item.result c.loop-declr.walk.first _ c.loop-declr-test.true c.declr-item.is e.first e.own e.next
+          ∙ i.first;
+      own = declrs_own c.loop-declr.walk.own.entries _ c.loop-declr.walk.next _ c.args.declrs.now c.loop-declr.declr-index
+          c.declr-item.result c.loop-declr-test.true c.declr-item.is e.own e.next ∙ i.own;
       next = declrs_next c.loop-declr.walk.next _ c.args.declrs.now c.loop-declr.declr-index c.declr-item.result c.loop-declr-test.true c.declr-item.is e.next ∙ i.next;
       fits = fits_push c.loop-declr.steps.items _ c.in_ok-step.step c.in_ok-push.ensures.items i.fits e.fits;
       low = rw e.next (behind_low _ _);
@@ -22,5 +27,7 @@ loop-declr-preserved c =
 pub returns-clause-steps : goal.returns-clause-steps
 returns-clause-steps c =
     sym (joined_none (rstmts_of c.loop-declr.steps.items))
-    ∙ ap (λ ds. joined (rstmts_of c.loop-declr.steps.items) (declrs_steps c.args.places.now c.args.file.now.entries c.loop-declr.walk.own.entries c.loop-declr.walk.next (map declr_of ds))) (sym (drop_end c.args.declrs.now c.loop-declr.declr-index c.loop-declr-test.false))
+    ∙ ap (λ ds. joined (rstmts_of c.loop-declr.steps.items)
+        (declrs_steps c.args.places.now c.args.file.now.entries c.loop-declr.walk.own.entries c.loop-declr.walk.next (map declr_of ds)))
+        (sym (drop_end c.args.declrs.now c.loop-declr.declr-index c.loop-declr-test.false))
     ∙ c.loop-declr.invariant.steps

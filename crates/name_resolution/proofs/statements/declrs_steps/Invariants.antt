@@ -11,8 +11,12 @@ use Rattle.name_resolution.proofs.statements.declrs_steps.Given as goal
 -- What the declarators so far came to, and the rest, come to what all do.
 abbrev pub invariant-loop-declr : goal.invariant-loop-declr
 invariant-loop-declr l = record {
-  steps : joined (rstmts_of l.steps.items) (declrs_steps l.places l.file.entries l.walk.own.entries l.walk.next (map declr_of (drop l.declr-index l.declrs))) ≡ declrs_steps l.places l.file.entries l.initial.walk.own.entries l.initial.walk.next (map declr_of l.declrs);
-  first : least_from l.walk.first (declrs_breaches l.file.entries l.walk.own.entries l.walk.next (map declr_of (drop l.declr-index l.declrs))) ≡ least_from l.initial.walk.first (declrs_breaches l.file.entries l.initial.walk.own.entries l.initial.walk.next (map declr_of l.declrs));
+  steps : joined (rstmts_of l.steps.items)
+      (declrs_steps l.places l.file.entries l.walk.own.entries l.walk.next (map declr_of (drop l.declr-index l.declrs))) ≡ declrs_steps
+      l.places l.file.entries l.initial.walk.own.entries l.initial.walk.next (map declr_of l.declrs);
+  first : least_from l.walk.first
+      (declrs_breaches l.file.entries l.walk.own.entries l.walk.next (map declr_of (drop l.declr-index l.declrs))) ≡ least_from
+      l.initial.walk.first (declrs_breaches l.file.entries l.initial.walk.own.entries l.initial.walk.next (map declr_of l.declrs));
   own : after_declrs l.walk.own.entries l.walk.next (map declr_of (drop l.declr-index l.declrs)) ≡ after_declrs l.initial.walk.own.entries l.initial.walk.next (map declr_of l.declrs);
   next : behind l.walk.next (declrs_cells (map declr_of (drop l.declr-index l.declrs))) ≡ behind l.initial.walk.next (declrs_cells (map declr_of l.declrs));
   fits : RowFits (rstmts_of l.steps.items);

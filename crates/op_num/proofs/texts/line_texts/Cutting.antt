@@ -14,7 +14,8 @@ use Rattle.lemmas.proofs.Lists.{head_same, tail_same}
 pub no_line : (bytes : List ℕ) → position_or_len is_lf bytes ≡ length bytes → HasNoLf bytes
 no_line bytes e k d lt = fails_before_first is_lf bytes k d (omega arith)
 
-pub line_taken : (old new : Unread) (line : List ℕ) → position_or_len is_lf old.rest < length old.rest → line ≡ before_first is_lf old.rest → new.rest ≡ after_first is_lf old.rest → new.taken ≡ old.taken + 1 → Takes old new line
+pub line_taken : (old new : Unread) (line : List ℕ) → position_or_len is_lf old.rest < length old.rest → line ≡ before_first is_lf old.rest
+    → new.rest ≡ after_first is_lf old.rest → new.taken ≡ old.taken + 1 → Takes old new line
 line_taken old new line lt front back n = record {
   whole = (
       let n : ℕ = position_or_len is_lf old.rest in
@@ -31,7 +32,9 @@ line_taken old new line lt front back n = record {
 }
 
 -- the same, by the pieces that the code cuts
-pub line_cut : (u : Unread) (taken n : ℕ) (bytes line behind more : List ℕ) → record { taken = taken; rest = bytes } ≡ u → n ≡ position_or_len is_lf bytes → n ≤ length bytes → (n ≡ length bytes → ⊥) → line ≡ take n bytes → behind ≡ drop n bytes → more ≡ drop 1 behind → Takes u (record { taken = taken + 1; rest = more }) line
+pub line_cut : (u : Unread) (taken n : ℕ) (bytes line behind more : List ℕ) → record { taken = taken; rest = bytes } ≡ u
+    → n ≡ position_or_len is_lf bytes → n ≤ length bytes → (n ≡ length bytes → ⊥) → line ≡ take n bytes → behind ≡ drop n bytes
+    → more ≡ drop 1 behind → Takes u (record { taken = taken + 1; rest = more }) line
 line_cut u taken n bytes line behind more is size within some front back next =
     let old : Unread = record { taken = taken; rest = bytes } in
     let new : Unread = record { taken = taken + 1; rest = more } in
@@ -87,7 +90,8 @@ pub joined : (line : List ℕ) → join_with_byte 32 (words line) ≡ line
 joined line = join_with_byte-slice_split 32 line
 
 -- the same, by the pieces that the code cuts
-pub word_cut : (ws : List (List ℕ)) (n : ℕ) (line word behind more : List ℕ) → words line ≡ ws → n ≡ position_or_len is_space line → n ≤ length line → (n ≡ length line → ⊥) → word ≡ take n line → behind ≡ drop n line → more ≡ drop 1 behind → ws ≡ word ∷ words more
+pub word_cut : (ws : List (List ℕ)) (n : ℕ) (line word behind more : List ℕ) → words line ≡ ws → n ≡ position_or_len is_space line
+    → n ≤ length line → (n ≡ length line → ⊥) → word ≡ take n line → behind ≡ drop n line → more ≡ drop 1 behind → ws ≡ word ∷ words more
 word_cut ws n line word behind more is size within some front back next =
     sym is ∙ word_taken line word more (omega arith) (front ∙ ap (λ k. take k line) size) (next ∙ ap (drop 1) back ∙ drop-drop 1 n line ∙ ap (λ k. drop (k + 1) line) size)
 

@@ -6,7 +6,9 @@ use Rattle.partition.proofs.Naming.{count_most, naming_counted, entry_target, en
 use Rattle.partition.proofs.derived.count_targets.Goals as goal
 
 pub loop-place-init : goal.loop-place-init
-loop-place-init c = λ y l. (let s : c.args.element * map_dim c.args.mesh.now c.args.map ≡ c.args.element * map_dim c.args.mesh.now c.args.map + 0 = omega arith in subst (λ z. get_or c.args.counts.now y 0 ≡ count_below z (names c.args.mesh.now c.args.map y)) s (c.requires.counts y l))
+loop-place-init c = λ y l. (let s : c.args.element * map_dim c.args.mesh.now c.args.map ≡ c.args.element * map_dim c.args.mesh.now
+    c.args.map + 0 = omega arith in subst (λ z. get_or c.args.counts.now y 0 ≡ count_below z (names c.args.mesh.now c.args.map y)) s
+    (c.requires.counts y l))
 
 pub overflow_add-counts : goal.overflow_add-counts
 overflow_add-counts c =
@@ -17,7 +19,8 @@ overflow_add-counts c =
     let d : c.map_ends-dim.result.2 ≡ map_dim g m = ap (λ (z : ℕ × ℕ × ℕ). z.2) c.map_ends-dim.ensures in
     let most : count_below e (names g m t) ≤ e = count_most e (names g m t) in
     let v : get_or c.loop-place.counts t 0 ≤ e = rw (c.loop-place.invariant t c.target-target.ensures.within) most in
-    let fits = entry_fits c.args.element (map_dim g m) c.loop-place.place (get_or c.loop-place.counts t 0) (omega (arith, c.ranges.element)) (omega (arith, d, c.map_ends-dim.type_inv)) (omega (arith, d, c.loop-place-test.true)) v in
+    let fits = entry_fits c.args.element (map_dim g m) c.loop-place.place (get_or c.loop-place.counts t 0) (omega (arith, c.ranges.element))
+        (omega (arith, d, c.map_ends-dim.type_inv)) (omega (arith, d, c.loop-place-test.true)) v in
     omega (arith, fits)
 
 pub loop-place-preserved : goal.loop-place-preserved

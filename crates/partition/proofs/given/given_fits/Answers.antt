@@ -6,7 +6,8 @@ use Rattle.mesh_decl.specs.Mesh.{set_count, set_size}
 use Rattle.partition.specs.Derive.{is_given, given_in, given_list}
 use Rattle.partition.proofs.given.given_fits.Goals as goal
 
-reads : (given : List (Option (Vec ℕ Global))) (s : ℕ) (entry : Option (Vec ℕ Global)) → s < length given → entry ≡ get_or given s entry → (is_given given s ≡ is_some entry) × (given_in given s ≡ given_list entry)
+reads : (given : List (Option (Vec ℕ Global))) (s : ℕ) (entry : Option (Vec ℕ Global)) → s < length given → entry ≡ get_or given s entry
+    → (is_given given s ≡ is_some entry) × (given_in given s ≡ given_list entry)
 unfolding is_given given_in
 reads given s entry l e = (
   get_or-map (λ (v : Option (Vec ℕ Global)). is_some v) given s entry false l ∙ sym (ap (λ (v : Option (Vec ℕ Global)). is_some v) e),
@@ -22,7 +23,9 @@ returns-then-not-entry_fits c = (
       let ll : s < length c.args.given.now = rw a.sets l in
       let r = reads c.args.given.now s c.index-given-set.result ll c.index-given-set.is in
       let z : c.set_size.result ≡ set_size c.args.mesh.now s = c.set_size.ensures in
-      let t : c.entry_fits.result ≡ true = c.entry_fits.ensures.1 (λ k. (ap (length {A = ℕ}) (sym r.1) ∙ (a.lengths s l (r.0 ∙ k) ∙ sym z), λ x lx. subst (λ (q : List ℕ). get_or q x 0 < c.args.ranks) r.1 (a.below s x l (r.0 ∙ k) (rw (sym z) lx)))) in
+      let t : c.entry_fits.result ≡ true = c.entry_fits.ensures.1
+          (λ k. (ap (length {A = ℕ}) (sym r.1) ∙ (a.lengths s l (r.0 ∙ k) ∙ sym z),
+          λ x lx. subst (λ (q : List ℕ). get_or q x 0 < c.args.ranks) r.1 (a.below s x l (r.0 ∙ k) (rw (sym z) lx)))) in
       let f : c.entry_fits.result ≡ false = c.if-not-entry_fits.true in
       cc),
 )

@@ -69,7 +69,10 @@ halve-requires-2 t c =
                     upper_each (λ x. x * c.args.dim + c.args.dim ≤ length c.args.values.now) xs lower upper perm c.requires.within,
                     (
                       upper_once xs lower upper perm c.requires.once,
-                      upper_share c.args.size c.args.ranks c.args.low c.args.many (length lower) (length upper) (length xs) (omega (arith, c.requires.many, c.requires.high)) (upper_length xs lower upper perm) (c.split_at_mut-lower.ensures.front_len ∙ omega (arith, c.start_of.ensures, c.start_of-2.ensures)) c.requires.share,
+                      upper_share c.args.size c.args.ranks c.args.low c.args.many (length lower) (length upper) (length xs)
+                          (omega (arith, c.requires.many, c.requires.high)) (upper_length xs lower upper perm)
+                          (c.split_at_mut-lower.ensures.front_len ∙ omega (arith, c.start_of.ensures, c.start_of-2.ensures))
+                          c.requires.share,
                     ),
                   ),
                 ),
@@ -91,7 +94,9 @@ returns-clause-halved t c =
     let parted : IsParted c.args.values.now c.args.dim begin xs ys = subst (λ z. IsParted c.args.values.now c.args.dim z xs ys) first c.in_ok-cut.ensures in
     let fits : begin ≤ length xs = lower_share c.args.size c.args.ranks c.args.low c.args.many (length xs) (omega (arith, c.requires.many, c.requires.high)) c.requires.share in
     on_ok c.halve-2.result
-    (λ h. λ depth l. halved_parted depth c.args.size c.args.ranks c.args.values.now c.args.dim (λ x. get_or c.halve.new.owners x 0) (λ x. get_or c.halve-2.new.owners x 0) c.args.low c.args.many xs ys lower upper (omega (arith, c.requires.many, c.if-many-eq1.false)) fits parted
+    (λ h. λ depth l. halved_parted depth c.args.size c.args.ranks c.args.values.now c.args.dim (λ x. get_or c.halve.new.owners x 0)
+        (λ x. get_or c.halve-2.new.owners x 0) c.args.low c.args.many xs ys lower upper
+        (omega (arith, c.requires.many, c.if-many-eq1.false)) fits parted
     (c.split_at_mut-lower.ensures.front ∙ ap (λ z. take z ys) first) (c.split_at_mut-lower.ensures.back ∙ ap (λ z. drop z ys) first)
     c.requires.once c.in_ok-halve.ensures.halved h.0 h.1 l)
     (both_ok _ _ c.halve-2.result c.halve-2.ensures.kept c.halve-2.ensures.halved)

@@ -42,7 +42,9 @@ returns-then-not-take-clause-judged c = λ b meshes count size. (
   other_refused b meshes c.args.ranks count c.args.lines.now c.told_number.result c.rest.result.now c.deref.result.now c.rest.ensures
       (front_is c.args.ranks c.new-text.result.items c.put_sizes_front.new.text.items c.deref.result.now c.new-text.ensures.items c.in_ok-put_sizes_front.ensures c.deref.ensures.value)
       c.told_number.ensures c.in-Some.size c.deref-2.result.now c.in-Some.is
-      (text_is c.args.ranks c.in-Some.size c.deref.result.now c.put_sizes_front.new.text.items c.put_u64.new.out.items c.extend_from_slice.new.self.items c.deref-2.result.now c.deref.ensures.value c.in_ok-put_u64.ensures.ok c.in_ok-extend_from_slice.ensures.items c.deref-2.ensures.value)
+      (text_is c.args.ranks c.in-Some.size c.deref.result.now c.put_sizes_front.new.text.items c.put_u64.new.out.items
+          c.extend_from_slice.new.self.items c.deref-2.result.now c.deref.ensures.value c.in_ok-put_u64.ensures.ok
+          c.in_ok-extend_from_slice.ensures.items c.deref-2.ensures.value)
       (c.take.ensures.other c.if-not-take.true) size,
 )
 
@@ -51,5 +53,7 @@ returns-clause-judged c = λ b meshes count.
     sizes_taken b meshes c.args.ranks count c.args.lines.now c.told_number.result c.rest.result.now c.deref.result.now c.rest.ensures
     (front_is c.args.ranks c.new-text.result.items c.put_sizes_front.new.text.items c.deref.result.now c.new-text.ensures.items c.in_ok-put_sizes_front.ensures c.deref.ensures.value)
     c.told_number.ensures c.in-Some.size c.deref-2.result.now c.take.new.self (omega arith) (omega arith)
-    (text_is c.args.ranks c.in-Some.size c.deref.result.now c.put_sizes_front.new.text.items c.put_u64.new.out.items c.extend_from_slice.new.self.items c.deref-2.result.now c.deref.ensures.value c.in_ok-put_u64.ensures.ok c.in_ok-extend_from_slice.ensures.items c.deref-2.ensures.value)
+    (text_is c.args.ranks c.in-Some.size c.deref.result.now c.put_sizes_front.new.text.items c.put_u64.new.out.items
+        c.extend_from_slice.new.self.items c.deref-2.result.now c.deref.ensures.value c.in_ok-put_u64.ensures.ok
+        c.in_ok-extend_from_slice.ensures.items c.deref-2.ensures.value)
     (c.take.ensures.taken c.if-not-take.false)

@@ -20,8 +20,10 @@ returns-in_err-plan-clause-judged c =
     let l : k < length b.sites = omega (arith, c.loop-site-test.true, c.requires.few, length-map c.args.bound.now.sites.items site_of) in
     let m : k < length c.in_ok-runs.runs.items = omega (arith, c.in_ok-runs.ensures.count) in
     let runs = runs_read c.in_ok-runs.runs.items (runs_free b) k c.index.result.now true m c.index.ensures c.in_ok-runs.ensures.runs c.if-index.true in
-    passed_on b meshes c.args.size (awaited_sites b meshes (length b.sites)) c.args.lines.now _ (λ v. colours_in (entries_of v)) c.from_residual-in_err-plan.result c.in_err-plan.field-0.0 c.from_residual-in_err-plan.ensures.1
-    (loop_refused b meshes c.args.size k (length b.sites) c.args.lines.now c.loop-site.lines (colours_in (entries_of c.loop-site.plans)) c.in_err-plan.field-0.0 l runs c.loop-site.invariant.judged c.in_err-plan.ensures.judged)
+    passed_on b meshes c.args.size (awaited_sites b meshes (length b.sites)) c.args.lines.now _ (λ v. colours_in (entries_of v))
+        c.from_residual-in_err-plan.result c.in_err-plan.field-0.0 c.from_residual-in_err-plan.ensures.1
+    (loop_refused b meshes c.args.size k (length b.sites) c.args.lines.now c.loop-site.lines (colours_in (entries_of c.loop-site.plans))
+        c.in_err-plan.field-0.0 l runs c.loop-site.invariant.judged c.in_err-plan.ensures.judged)
 
 pub add-requires : goal.add-requires
 add-requires c =
@@ -42,7 +44,8 @@ loop-site-preserved c =
           let runs = runs_read c.in_ok-runs.runs.items (runs_free b) k c.index.result.now true m c.index.ensures c.in_ok-runs.ensures.runs w.if-index.true in
           let e = w.in_ok-add.ensures.entries in
           rw (w.lines-is, w.plans-is) (record {
-            judged = loop_taken b meshes size k c.args.lines.now c.loop-site.lines w.take_loop.new.lines es (entries_of w.add.new.self) (site_plan_of w.in_ok-plan.plan) runs c.loop-site.invariant.judged w.in_ok-plan.ensures.judged e;
+            judged = loop_taken b meshes size k c.args.lines.now c.loop-site.lines w.take_loop.new.lines es (entries_of w.add.new.self)
+                (site_plan_of w.in_ok-plan.plan) runs c.loop-site.invariant.judged w.in_ok-plan.ensures.judged e;
             plans = plans_added b (IsSitePlan b meshes size) k es (entries_of w.add.new.self) (site_plan_of w.in_ok-plan.plan) runs w.in_ok-plan.ensures.plan e c.loop-site.invariant.plans;
           }))
       | else-index w ↦ (

@@ -6,7 +6,9 @@ use Rattle.rank_exec.proofs.Tasking.{planned_at, one_more, still_enough, fewer, 
 use Rattle.rank_exec.proofs.group_steps.load_all.Goals as goal
 
 pub load_next-requires-clause-planned : goal.load_next-requires-clause-planned
-load_next-requires-clause-planned c = planned_at (by_place (setup_in c.args.program.now) (layout_in c.args.program.now)) c.args.group.now.item c.args.group.now.rank c.args.group.now.places.now c.requires.planned c.loop-place.place-index c.loop-place-test.true
+load_next-requires-clause-planned c = planned_at (by_place (setup_in c.args.program.now) (layout_in c.args.program.now))
+    c.args.group.now.item c.args.group.now.rank c.args.group.now.places.now c.requires.planned c.loop-place.place-index
+    c.loop-place-test.true
 
 pub load_next-requires-clause-buffers : goal.load_next-requires-clause-buffers
 load_next-requires-clause-buffers c =
@@ -19,7 +21,8 @@ load_next-requires-clause-buffers c =
 pub loop-place-preserved : goal.loop-place-preserved
 loop-place-preserved c = record {
   loaded =
-      one_more (λ i task w. IsLoaded (setup_in c.args.program.now) (layout_in c.args.program.now) (tables_in c.args.program.now) c.args.group.now.item c.args.group.now.rank (get_or c.args.group.now.places.now i 0) c.args.machine.now task w)
+      one_more (λ i task w. IsLoaded (setup_in c.args.program.now) (layout_in c.args.program.now) (tables_in c.args.program.now)
+          c.args.group.now.item c.args.group.now.rank (get_or c.args.group.now.places.now i 0) c.args.machine.now task w)
       c.loop-place.place-index c.loop-place.buffers c.load_next.new.buffers c.loop-place.invariant.count c.loop-place.invariant.loaded c.load_next.ensures.loaded c.load_next.ensures.others;
   count = omega (arith, c.load_next.ensures.count, c.loop-place.invariant.count);
   space = c.load_next.ensures.space;

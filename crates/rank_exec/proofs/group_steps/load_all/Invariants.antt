@@ -7,7 +7,8 @@ use Rattle.rank_exec.proofs.group_steps.load_all.Given as goal
 
 abbrev pub invariant-loop-place : goal.invariant-loop-place
 invariant-loop-place l = record {
-  loaded : (i : ℕ) → i < l.place-index → IsLoaded (setup_in l.program) (layout_in l.program) (tables_in l.program) l.group.item l.group.rank (get_or l.group.places.now i 0) l.machine (task_at l.buffers.tasks.items i) (part l.buffers.window i l.buffers.staging.items);
+  loaded : (i : ℕ) → i < l.place-index → IsLoaded (setup_in l.program) (layout_in l.program) (tables_in l.program) l.group.item l.group.rank
+      (get_or l.group.places.now i 0) l.machine (task_at l.buffers.tasks.items i) (part l.buffers.window i l.buffers.staging.items);
   count : length l.buffers.tasks.items ≡ l.place-index;
   space : HasRoomOf l.program l.room;
   kept : KeepsGroupRoom l.fn.buffers l.buffers;

@@ -7,7 +7,9 @@ use Rattle.rank_program.specs.Sound.{program_in, setup_in, layout_in}
 use Rattle.rank_exec.proofs.hosts.dat_values.Goals as goal
 
 pub loop-element-preserved : goal.loop-element-preserved
-loop-element-preserved c f h = rows_more (program_in c.args.program.now) (owned (setup_in c.args.program.now) (layout_in c.args.program.now) f) c.args.dat c.loop-element.element c.loop-element.values.items c.push_element.new.values.items (c.loop-element.invariant f h) (c.in_ok-push_element.ensures f h)
+loop-element-preserved c f h = rows_more (program_in c.args.program.now)
+    (owned (setup_in c.args.program.now) (layout_in c.args.program.now) f) c.args.dat c.loop-element.element c.loop-element.values.items
+    c.push_element.new.values.items (c.loop-element.invariant f h) (c.in_ok-push_element.ensures f h)
 
 all_are : (c : goal.After-loop-element) → c.loop-element.element ≡ set_size (program_in c.args.program.now).mesh (dat_set (program_in c.args.program.now).mesh c.args.dat)
 all_are c =
@@ -16,7 +18,11 @@ all_are c =
     omega (arith, size, c.loop-element-test.false, c.loop-element.auto.element-end)
 
 pub returns-clause-values : goal.returns-clause-values
-returns-clause-values c f h = c.loop-element.invariant f h ∙ ap (λ n. map (owned (setup_in c.args.program.now) (layout_in c.args.program.now) f) (flat_map (row_cells (program_in c.args.program.now) c.args.dat) (numbers n))) (all_are c)
+returns-clause-values c f h = c.loop-element.invariant f h
+    ∙ ap (λ n. map (owned (setup_in c.args.program.now) (layout_in c.args.program.now) f)
+    (flat_map (row_cells (program_in c.args.program.now) c.args.dat) (numbers n))) (all_are c)
 
 pub returns-clause-count : goal.returns-clause-count
-returns-clause-count c = ap length (returns-clause-values c c.requires.shows.0 c.requires.shows.1) ∙ dat_length (program_in c.args.program.now) (owned (setup_in c.args.program.now) (layout_in c.args.program.now) c.requires.shows.0) c.args.dat
+returns-clause-count c = ap length (returns-clause-values c c.requires.shows.0 c.requires.shows.1)
+    ∙ dat_length (program_in c.args.program.now) (owned (setup_in c.args.program.now) (layout_in c.args.program.now) c.requires.shows.0)
+    c.args.dat

@@ -16,7 +16,8 @@ run_parts-requires-clause-takes g c κs within =
 pub returns : goal.returns
 returns g c = record {
   left = c.run_parts.new.parts;
-  made = subst (λ xs. MadeEach (RanOn c.args.round.now.program.now c.args.round.now.item c.args.round.now.variables.now c.args.round.now.lists.now) 0 xs c.run_parts.new.parts) c.swap_all.ensures.parts c.run_parts.ensures;
+  made = subst (λ xs. MadeEach (RanOn c.args.round.now.program.now c.args.round.now.item c.args.round.now.variables.now
+      c.args.round.now.lists.now) 0 xs c.run_parts.new.parts) c.swap_all.ensures.parts c.run_parts.ensures;
   memories = c.swap_all-2.ensures.memories;
   partials = c.swap_all-2.ensures.partials;
   parts = c.swap_all-2.ensures.parts ∙ ap₂ (λ a b. lent a b c.run_parts.new.parts) c.swap_all.ensures.memories c.swap_all.ensures.partials;

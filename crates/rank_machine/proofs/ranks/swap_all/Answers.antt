@@ -19,11 +19,14 @@ loop-rank-preserved c =
     let same = c.loop-rank.auto.parts in
     let lx : r < length xs = omega (arith, c.loop-rank-test.true, same) in
     record {
-      memories = rows_next (λ (x : RankPart). x.memory) xs ms c.loop-rank.memories (lent ms ps xs) c.loop-rank.parts r d c.swap.new.x h.memories h.parts (omega (arith, lx, n)) lx (omega (arith, lx, c.requires.memories))
+      memories = rows_next (λ (x : RankPart). x.memory) xs ms c.loop-rank.memories (lent ms ps xs) c.loop-rank.parts r d c.swap.new.x
+          h.memories h.parts (omega (arith, lx, n)) lx (omega (arith, lx, c.requires.memories))
           c.swap.ensures.x_after;
-      partials = rows_next (λ (x : RankPart). x.partials) xs ps c.loop-rank.partials (lent ms ps xs) c.loop-rank.parts r d c.swap-in-loop-rank.new.x h.partials h.parts (omega (arith, lx, n)) lx (omega (arith, lx, c.requires.partials))
+      partials = rows_next (λ (x : RankPart). x.partials) xs ps c.loop-rank.partials (lent ms ps xs) c.loop-rank.parts r d
+          c.swap-in-loop-rank.new.x h.partials h.parts (omega (arith, lx, n)) lx (omega (arith, lx, c.requires.partials))
           c.swap-in-loop-rank.ensures.x_after;
-      parts = parts_next ms ps xs (map (λ (x : RankPart). x.memory) xs) (map (λ (x : RankPart). x.partials) xs) c.loop-rank.memories c.loop-rank.partials c.loop-rank.parts r d (with_parts (get_or c.loop-rank.parts r d) c.swap.new.y c.swap-in-loop-rank.new.y)
+      parts = parts_next ms ps xs (map (λ (x : RankPart). x.memory) xs) (map (λ (x : RankPart). x.partials) xs) c.loop-rank.memories
+          c.loop-rank.partials c.loop-rank.parts r d (with_parts (get_or c.loop-rank.parts r d) c.swap.new.y c.swap-in-loop-rank.new.y)
           c.index-memories-rank.result c.index-partials-rank.result h.parts h.memories h.partials lx c.requires.memories c.requires.partials em ep
           (ap₂ (λ a b. with_parts (get_or c.loop-rank.parts r d) a b) c.swap.ensures.y_after c.swap-in-loop-rank.ensures.y_after);
       within = omega (arith, lx);

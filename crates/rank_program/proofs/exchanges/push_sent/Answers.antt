@@ -14,7 +14,8 @@ push_exports-requires-clause-has c =
     let x = c.args.program.now in
     let b = program_in x in
     let is = c.sends_stand.ensures b x.owners.now c.requires.sound.numbers x.meshes.now (plan_in x) c.requires.sound.halos x.lists.now c.requires.sound.lists
-    c.args.item c.args.from c.args.to (get_or x.meshes.now c.args.from c.index-program-from.result) c.requires.step (ap (λ (m : RankMesh). get_or x.meshes.now c.args.from m) c.index-program-from.is) in
+    c.args.item c.args.from c.args.to (get_or x.meshes.now c.args.from c.index-program-from.result) c.requires.step
+        (ap (λ (m : RankMesh). get_or x.meshes.now c.args.from m) c.index-program-from.is) in
     is.has
 
 pub push_exports-requires-clause-there : goal.push_exports-requires-clause-there
@@ -22,7 +23,8 @@ push_exports-requires-clause-there c =
     let x = c.args.program.now in
     let b = program_in x in
     let is = c.sends_stand.ensures b x.owners.now c.requires.sound.numbers x.meshes.now (plan_in x) c.requires.sound.halos x.lists.now c.requires.sound.lists
-    c.args.item c.args.from c.args.to (get_or x.meshes.now c.args.from c.index-program-from.result) c.requires.step (ap (λ (m : RankMesh). get_or x.meshes.now c.args.from m) c.index-program-from.is) in
+    c.args.item c.args.from c.args.to (get_or x.meshes.now c.args.from c.index-program-from.result) c.requires.step
+        (ap (λ (m : RankMesh). get_or x.meshes.now c.args.from m) c.index-program-from.is) in
     subst (λ (dats : List ℕ). AreThere b.mesh (get_or x.meshes.now c.args.from c.index-program-from.result) (λ t. exported_locals x.lists.now t c.args.from c.args.to) dats)
     (sym c.exchange_of.ensures) is.are.there
 
@@ -31,9 +33,12 @@ push_exports-requires-clause-room c =
     let x = c.args.program.now in
     let b = program_in x in
     let is = c.sends_stand.ensures b x.owners.now c.requires.sound.numbers x.meshes.now (plan_in x) c.requires.sound.halos x.lists.now c.requires.sound.lists
-    c.args.item c.args.from c.args.to (get_or x.meshes.now c.args.from c.index-program-from.result) c.requires.step (ap (λ (m : RankMesh). get_or x.meshes.now c.args.from m) c.index-program-from.is) in
+    c.args.item c.args.from c.args.to (get_or x.meshes.now c.args.from c.index-program-from.result) c.requires.step
+        (ap (λ (m : RankMesh). get_or x.meshes.now c.args.from m) c.index-program-from.is) in
     let none = ap (λ (l : List Span). length l) c.requires.empty in
-    let same = ap (λ (dats : List ℕ). length (spans_of b.mesh (get_or x.meshes.now c.args.from c.index-program-from.result) (λ t. exported_locals x.lists.now t c.args.from c.args.to) dats)) c.exchange_of.ensures in
+    let same = ap (λ (dats : List ℕ). length
+        (spans_of b.mesh (get_or x.meshes.now c.args.from c.index-program-from.result)
+        (λ t. exported_locals x.lists.now t c.args.from c.args.to) dats)) c.exchange_of.ensures in
     let most = c.requires.sound.made.messages c.args.item c.args.from c.args.to is.are.item is.sender is.receiver in
     omega (arith, none, same, is.are.spans, most, c.requires.room)
 
@@ -42,7 +47,8 @@ returns-clause-are c =
     let x = c.args.program.now in
     let b = program_in x in
     let is = c.sends_stand.ensures b x.owners.now c.requires.sound.numbers x.meshes.now (plan_in x) c.requires.sound.halos x.lists.now c.requires.sound.lists
-    c.args.item c.args.from c.args.to (get_or x.meshes.now c.args.from c.index-program-from.result) c.requires.step (ap (λ (m : RankMesh). get_or x.meshes.now c.args.from m) c.index-program-from.is) in
+    c.args.item c.args.from c.args.to (get_or x.meshes.now c.args.from c.index-program-from.result) c.requires.step
+        (ap (λ (m : RankMesh). get_or x.meshes.now c.args.from m) c.index-program-from.is) in
     let new =
     c.push_exports.ensures.spans
     ∙ ap₂ (λ (l : List Span) (dats : List ℕ). l ++ spans_of b.mesh (get_or x.meshes.now c.args.from c.index-program-from.result) (λ t. exported_locals x.lists.now t c.args.from c.args.to) dats)
@@ -54,7 +60,8 @@ returns-clause-some c =
     let x = c.args.program.now in
     let b = program_in x in
     let is = c.sends_stand.ensures b x.owners.now c.requires.sound.numbers x.meshes.now (plan_in x) c.requires.sound.halos x.lists.now c.requires.sound.lists
-    c.args.item c.args.from c.args.to (get_or x.meshes.now c.args.from c.index-program-from.result) c.requires.step (ap (λ (m : RankMesh). get_or x.meshes.now c.args.from m) c.index-program-from.is) in
+    c.args.item c.args.from c.args.to (get_or x.meshes.now c.args.from c.index-program-from.result) c.requires.step
+        (ap (λ (m : RankMesh). get_or x.meshes.now c.args.from m) c.index-program-from.is) in
     let new =
     c.push_exports.ensures.spans
     ∙ ap₂ (λ (l : List Span) (dats : List ℕ). l ++ spans_of b.mesh (get_or x.meshes.now c.args.from c.index-program-from.result) (λ t. exported_locals x.lists.now t c.args.from c.args.to) dats)

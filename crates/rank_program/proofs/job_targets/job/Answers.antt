@@ -50,8 +50,14 @@ returns-clause-accepts c i n lt room =
       targets = c.requires.targeted.count;
       few = omega (arith, few, of_site);
       code = t.sound.codes.each c.index-site.result.now.kernel c.index-program-site.result there;
-      params = of_site ∙ takes b t.sound.planned.fits (site_of c.index-site.result.now) fit (get_or c.args.program.now.codes.now c.index-site.result.now.kernel c.index-program-site.result).kernel.now (t.sound.codes.of_kernel c.index-site.result.now.kernel c.index-program-site.result (get_or c.args.program.now.codes.now c.index-site.result.now.kernel c.index-program-site.result).kernel.now there);
-      resolved = resolved b t.sound.planned.fits (site_of c.index-site.result.now) fit (get_or c.args.program.now.codes.now c.index-site.result.now.kernel c.index-program-site.result).kernel.now (t.sound.codes.of_kernel c.index-site.result.now.kernel c.index-program-site.result (get_or c.args.program.now.codes.now c.index-site.result.now.kernel c.index-program-site.result).kernel.now there)
+      params = of_site ∙ takes b t.sound.planned.fits (site_of c.index-site.result.now) fit
+          (get_or c.args.program.now.codes.now c.index-site.result.now.kernel c.index-program-site.result).kernel.now
+          (t.sound.codes.of_kernel c.index-site.result.now.kernel c.index-program-site.result
+          (get_or c.args.program.now.codes.now c.index-site.result.now.kernel c.index-program-site.result).kernel.now there);
+      resolved = resolved b t.sound.planned.fits (site_of c.index-site.result.now) fit
+          (get_or c.args.program.now.codes.now c.index-site.result.now.kernel c.index-program-site.result).kernel.now
+          (t.sound.codes.of_kernel c.index-site.result.now.kernel c.index-program-site.result
+          (get_or c.args.program.now.codes.now c.index-site.result.now.kernel c.index-program-site.result).kernel.now there)
           (c.constants_are_read.ensures.numbered b t.sound.planned.fits.constants) (length c.args.constants.now) t.constants;
       fits = subst (λ m. PlacesIn (task_at c.args.tasks.now i).cells (places_in c.args.targets.now m i)) (sym count)
           (subst (λ m. PlacesIn m (places_in c.args.targets.now (length (the.site_of b c.args.item).args) i)) (sym at.windows) (c.requires.targeted.each i lt).within);
@@ -69,10 +75,18 @@ returns-clause-core c i ws lt len =
     let there = code_there b t.sound.planned.fits c.items_are_there.ensures.loops c.args.item c.loop_of-number.result t.is_loop c.loop_of-number.ensures
     c.args.program.now.bound.now.sites.items refl c.index-site.result.now c.index-site.ensures c.args.program.now.codes.now t.sound.codes in
     let count : length c.args_of.result.now ≡ length (the.site_of b c.args.item).args = ap length (args_are c) in
-    let kernel = kernel_of b t.sound.planned.fits (site_of c.index-site.result.now) fit (get_or c.args.program.now.codes.now c.index-site.result.now.kernel c.index-program-site.result).kernel.now (t.sound.codes.of_kernel c.index-site.result.now.kernel c.index-program-site.result (get_or c.args.program.now.codes.now c.index-site.result.now.kernel c.index-program-site.result).kernel.now there) in
-    ap (λ m. core_of (kernel_meaning (map target_of (places_in c.args.targets.now m i)) c.args.constants.now (get_or c.args.program.now.codes.now c.index-site.result.now.kernel c.index-program-site.result).kernel.now (ws ∷ []))) count
-    ∙ (ap (λ ts. core_of (kernel_meaning ts c.args.constants.now (get_or c.args.program.now.codes.now c.index-site.result.now.kernel c.index-program-site.result).kernel.now (ws ∷ []))) (c.requires.targeted.each i lt).places_are
-    ∙ (ap (λ (s : SiteValue). core_of (kernel_meaning (frame_windows b s.args (task_at c.args.tasks.now i).element) c.args.constants.now (get_or c.args.program.now.codes.now c.index-site.result.now.kernel c.index-program-site.result).kernel.now (ws ∷ []))) same
+    let kernel = kernel_of b t.sound.planned.fits (site_of c.index-site.result.now) fit
+        (get_or c.args.program.now.codes.now c.index-site.result.now.kernel c.index-program-site.result).kernel.now
+        (t.sound.codes.of_kernel c.index-site.result.now.kernel c.index-program-site.result
+        (get_or c.args.program.now.codes.now c.index-site.result.now.kernel c.index-program-site.result).kernel.now there) in
+    ap (λ m. core_of (kernel_meaning (map target_of (places_in c.args.targets.now m i)) c.args.constants.now
+        (get_or c.args.program.now.codes.now c.index-site.result.now.kernel c.index-program-site.result).kernel.now (ws ∷ []))) count
+    ∙ (ap (λ ts. core_of (kernel_meaning ts c.args.constants.now
+        (get_or c.args.program.now.codes.now c.index-site.result.now.kernel c.index-program-site.result).kernel.now (ws ∷ [])))
+        (c.requires.targeted.each i lt).places_are
+    ∙ (ap (λ (s : SiteValue). core_of
+        (kernel_meaning (frame_windows b s.args (task_at c.args.tasks.now i).element) c.args.constants.now
+        (get_or c.args.program.now.codes.now c.index-site.result.now.kernel c.index-program-site.result).kernel.now (ws ∷ []))) same
     ∙ sym (ap (λ (s : SiteValue). site_core b s (task_at c.args.tasks.now i).element c.args.constants.now ws) same
     ∙ ap (λ o. core_with b o (site_of c.index-site.result.now) (task_at c.args.tasks.now i).element c.args.constants.now ws) kernel)))
 

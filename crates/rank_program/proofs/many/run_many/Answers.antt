@@ -28,7 +28,8 @@ run-requires-clause-can g c =
     let part = c.part_at-part.result.now in
     let size = part_length l.places.now at count fits part c.part_at-part.ensures in
     let are = part_are l.places.now at count fits part c.part_at-part.ensures in
-    can_run l c.args.run.now.rows c.requires.can.rows c.requires.can.can.is _ (length-take-le l.part.now.cells c.args.share.now.memory.now (let all = c.requires.lent.memory in omega (arith, all))) part
+    can_run l c.args.run.now.rows c.requires.can.rows c.requires.can.can.is _
+        (length-take-le l.part.now.cells c.args.share.now.memory.now (let all = c.requires.lent.memory in omega (arith, all))) part
     (λ j lt. subst (BeginsAt l) (sym (are j (omega (arith, lt, size)))) (c.requires.can.steps (at + j) (omega (arith, lt, size, fits))))
 
 pub run-requires-clause-in_rows : goal.run-requires-clause-in_rows
@@ -42,7 +43,8 @@ run-requires-clause-in_rows g c =
     let are = part_are l.places.now at count fits part c.part_at-part.ensures in (
       modes_of (program_in l.program.now) (site_of (program_in l.program.now) l.item),
       (λ x. places_in x l.args.now c.requires.can.rows.stand),
-      in_rows l c.args.run.now.rows c.requires.can.rows c.requires.can.can.is _ (length-take-le l.part.now.cells c.args.share.now.memory.now (let all = c.requires.lent.memory in omega (arith, all))) part
+      in_rows l c.args.run.now.rows c.requires.can.rows c.requires.can.can.is _
+          (length-take-le l.part.now.cells c.args.share.now.memory.now (let all = c.requires.lent.memory in omega (arith, all))) part
           (λ j lt. subst (BeginsAt l) (sym (are j (omega (arith, lt, size)))) (c.requires.can.steps (at + j) (omega (arith, lt, size, fits)))),
     )
 

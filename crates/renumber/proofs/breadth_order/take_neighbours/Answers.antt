@@ -19,7 +19,8 @@ unseen_neighbours-requires-clause-element c =
 found : (g : MeshValue) (m x v : ℕ) (seen : List Bool) (keys now items : List ℕ) → v ≡ x → items ≡ now → AreUnseen g m v seen keys now → AreUnseen g m x seen keys items
 found g m x v seen keys now items e f u = subst (λ z. AreUnseen g m z seen keys items) e (subst (λ (z : List ℕ). AreUnseen g m v seen keys z) (sym f) u)
 
-bound : (g : MeshValue) (m x i : ℕ) (old seen : List Bool) (keys items : List ℕ) → IsMapAt g m → m < map_count g → AreUnseen g m x old keys items → i < length items → length seen ≡ set_size g (map_to g m) → get_or items i 0 < length seen
+bound : (g : MeshValue) (m x i : ℕ) (old seen : List Bool) (keys items : List ℕ) → IsMapAt g m → m < map_count g
+    → AreUnseen g m x old keys items → i < length items → length seen ≡ set_size g (map_to g m) → get_or items i 0 < length seen
 bound g m x i old seen keys items at lm u l e = rw e (neighbours_within g m x (get_or items i 0) at lm (u.near i l)).1
 
 pub bounds-seen-neighbour : goal.bounds-seen-neighbour
@@ -28,8 +29,12 @@ bounds-seen-neighbour c =
     let m : ℕ = c.args.map in
     let items : List ℕ = c.as_slice-neighbour-items.result.now in
     let x : ℕ = get_or c.args.order.now.items c.args.head 0 in
-    let u : AreUnseen g m x c.args.seen.now c.args.keys.now items = found g m x c.index.result.now c.args.seen.now c.args.keys.now c.unseen_neighbours.new.found.items items (get_or_read c.args.order.now.items c.args.head c.index.result.now c.requires.head c.index.ensures 0) c.as_slice-neighbour-items.ensures.value c.in_ok-unseen_neighbours.ensures in
-    bound g m x c.loop-neighbour.neighbour-index c.args.seen.now c.loop-neighbour.seen c.args.keys.now items c.requires.at c.requires.map u c.loop-neighbour-test.true c.loop-neighbour.invariant.walk.size
+    let u : AreUnseen g m x c.args.seen.now c.args.keys.now items =
+        found g m x c.index.result.now c.args.seen.now c.args.keys.now c.unseen_neighbours.new.found.items items
+        (get_or_read c.args.order.now.items c.args.head c.index.result.now c.requires.head c.index.ensures 0)
+        c.as_slice-neighbour-items.ensures.value c.in_ok-unseen_neighbours.ensures in
+    bound g m x c.loop-neighbour.neighbour-index c.args.seen.now c.loop-neighbour.seen c.args.keys.now items c.requires.at c.requires.map u
+        c.loop-neighbour-test.true c.loop-neighbour.invariant.walk.size
 
 pub bounds-seen-neighbour-then-not-seen-neighbour : goal.bounds-seen-neighbour-then-not-seen-neighbour
 bounds-seen-neighbour-then-not-seen-neighbour c =
@@ -37,8 +42,12 @@ bounds-seen-neighbour-then-not-seen-neighbour c =
     let m : ℕ = c.args.map in
     let items : List ℕ = c.as_slice-neighbour-items.result.now in
     let x : ℕ = get_or c.args.order.now.items c.args.head 0 in
-    let u : AreUnseen g m x c.args.seen.now c.args.keys.now items = found g m x c.index.result.now c.args.seen.now c.args.keys.now c.unseen_neighbours.new.found.items items (get_or_read c.args.order.now.items c.args.head c.index.result.now c.requires.head c.index.ensures 0) c.as_slice-neighbour-items.ensures.value c.in_ok-unseen_neighbours.ensures in
-    bound g m x c.loop-neighbour.neighbour-index c.args.seen.now c.loop-neighbour.seen c.args.keys.now items c.requires.at c.requires.map u c.loop-neighbour-test.true c.loop-neighbour.invariant.walk.size
+    let u : AreUnseen g m x c.args.seen.now c.args.keys.now items =
+        found g m x c.index.result.now c.args.seen.now c.args.keys.now c.unseen_neighbours.new.found.items items
+        (get_or_read c.args.order.now.items c.args.head c.index.result.now c.requires.head c.index.ensures 0)
+        c.as_slice-neighbour-items.ensures.value c.in_ok-unseen_neighbours.ensures in
+    bound g m x c.loop-neighbour.neighbour-index c.args.seen.now c.loop-neighbour.seen c.args.keys.now items c.requires.at c.requires.map u
+        c.loop-neighbour-test.true c.loop-neighbour.invariant.walk.size
 
 pub loop-neighbour-preserved : goal.loop-neighbour-preserved
 loop-neighbour-preserved c =
@@ -53,7 +62,10 @@ loop-neighbour-preserved c =
     let order : List ℕ = c.loop-neighbour.order.items in
     let seen : List Bool = c.loop-neighbour.seen in
     let inv = c.loop-neighbour.invariant in
-    let u : AreUnseen g m x c.args.seen.now c.args.keys.now items = found g m x c.index.result.now c.args.seen.now c.args.keys.now c.unseen_neighbours.new.found.items items (get_or_read c.args.order.now.items c.args.head c.index.result.now c.requires.head c.index.ensures 0) c.as_slice-neighbour-items.ensures.value c.in_ok-unseen_neighbours.ensures in
+    let u : AreUnseen g m x c.args.seen.now c.args.keys.now items =
+        found g m x c.index.result.now c.args.seen.now c.args.keys.now c.unseen_neighbours.new.found.items items
+        (get_or_read c.args.order.now.items c.args.head c.index.result.now c.requires.head c.index.ensures 0)
+        c.as_slice-neighbour-items.ensures.value c.in_ok-unseen_neighbours.ensures in
     let nz : near x z ≡ true = u.near i c.loop-neighbour-test.true in
     let lz : z < n = (neighbours_within g m x z c.requires.at c.requires.map nz).1 in
     let ls : z < length seen = rw inv.walk.size lz in
@@ -92,6 +104,9 @@ returns-clause-walk c =
     let items : List ℕ = c.as_slice-neighbour-items.result.now in
     let x : ℕ = get_or c.args.order.now.items c.args.head 0 in
     let inv = c.loop-neighbour.invariant in
-    let u : AreUnseen g m x c.args.seen.now c.args.keys.now items = found g m x c.index.result.now c.args.seen.now c.args.keys.now c.unseen_neighbours.new.found.items items (get_or_read c.args.order.now.items c.args.head c.index.result.now c.requires.head c.index.ensures 0) c.as_slice-neighbour-items.ensures.value c.in_ok-unseen_neighbours.ensures in
+    let u : AreUnseen g m x c.args.seen.now c.args.keys.now items =
+        found g m x c.index.result.now c.args.seen.now c.args.keys.now c.unseen_neighbours.new.found.items items
+        (get_or_read c.args.order.now.items c.args.head c.index.result.now c.requires.head c.index.ensures 0)
+        c.as_slice-neighbour-items.ensures.value c.in_ok-unseen_neighbours.ensures in
     walk_closed (set_size g (map_to g m)) near c.loop-neighbour.order.items c.loop-neighbour.seen c.args.head inv.walk
     (λ y t. all_done (near x) c.args.seen.now c.loop-neighbour.seen items u.all inv.kept (λ i l. inv.done i (omega arith)) y (subst (λ q. near q y ≡ true) inv.here t))

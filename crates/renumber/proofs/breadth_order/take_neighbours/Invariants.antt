@@ -11,6 +11,7 @@ invariant-loop-neighbour l = record {
   more : length l.fn.order.items ≤ length l.order.items;
   here : get_or l.order.items l.head 0 ≡ get_or l.fn.order.items l.head 0;
   done : (i : ℕ) → i < l.neighbour-index → get_or l.seen (get_or l.neighbour-items i 0) false ≡ true;
-  taken : IsTaken (set_size l.mesh (map_to l.mesh l.map)) (are_neighbours l.mesh l.map) (keyed l.keys) l.fn.order.items → IsTaken (set_size l.mesh (map_to l.mesh l.map)) (are_neighbours l.mesh l.map) (keyed l.keys) l.order.items;
+  taken : IsTaken (set_size l.mesh (map_to l.mesh l.map)) (are_neighbours l.mesh l.map) (keyed l.keys) l.fn.order.items
+      → IsTaken (set_size l.mesh (map_to l.mesh l.map)) (are_neighbours l.mesh l.map) (keyed l.keys) l.order.items;
   kept : (y : ℕ) → get_or l.fn.seen y false ≡ true → get_or l.seen y false ≡ true;
 }

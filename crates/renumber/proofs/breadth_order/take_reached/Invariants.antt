@@ -9,7 +9,8 @@ abbrev pub invariant-loop-head : goal.invariant-loop-head
 invariant-loop-head l = record {
   walk : IsWalk (set_size l.mesh (map_to l.mesh l.map)) (are_neighbours l.mesh l.map) l.order.items l.seen l.head;
   within : l.head ≤ length l.order.items;
-  taken : IsTaken (set_size l.mesh (map_to l.mesh l.map)) (are_neighbours l.mesh l.map) (keyed l.keys) l.fn.order.items → IsTaken (set_size l.mesh (map_to l.mesh l.map)) (are_neighbours l.mesh l.map) (keyed l.keys) l.order.items;
+  taken : IsTaken (set_size l.mesh (map_to l.mesh l.map)) (are_neighbours l.mesh l.map) (keyed l.keys) l.fn.order.items
+      → IsTaken (set_size l.mesh (map_to l.mesh l.map)) (are_neighbours l.mesh l.map) (keyed l.keys) l.order.items;
   kept : (y : ℕ) → get_or l.fn.seen y false ≡ true → get_or l.seen y false ≡ true;
 }
 

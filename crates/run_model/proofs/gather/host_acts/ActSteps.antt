@@ -86,7 +86,8 @@ module _ (v : ℕ) (vars : VarCell → ℤ) (op : AssignOp) (op_at : Pos) where
   by_component (Ok i) x count old own below same = by_value x i (old i) (own i) (same i (below i refl))
   by_component (Err f) x count old own below same = refl
 
-module _ (b : BoundValue) (order : IsInOrder b) (m : List ℤ) (s : Store) (holds : Holds b m s) (v start : ℕ) (lv : v < length b.vars) (some : 0 < var_width b v) (begins : start + var_start b 0 ≡ var_start b v)
+module _ (b : BoundValue) (order : IsInOrder b) (m : List ℤ) (s : Store) (holds : Holds b m s) (v start : ℕ) (lv : v < length b.vars)
+    (some : 0 < var_width b v) (begins : start + var_start b 0 ≡ var_start b v)
     (cells : List ℤ) (is : its_cells b s ≡ cells) (are : cells ≡ drop (var_start b 0) m) where
   old_value : (i : ℕ) → i < var_width b v → s (Variable (record { variable = v; component = i })) ≡ get_or cells (start + i) (pos 0)
   old_value i li =
@@ -106,7 +107,9 @@ module _ (b : BoundValue) (order : IsInOrder b) (m : List ℤ) (s : Store) (hold
     assigned_same : assigned b s v index op op_at e at
         ≡ on_value Halts (component_in cells (var_width b v) at index) (λ i. on_value Halts (new_value_in cells (start + i) op op_at e) (storing_at i))
     assigned_same =
-        ap (λ c. on_value Halts c (λ i. on_value Halts (value_of b s e) (λ x. on_value Halts (stored op op_at (s (Variable (record { variable = v; component = i }))) x) (storing_at i)))) (component_same at index)
+        ap (λ c. on_value Halts c (λ i. on_value Halts (value_of b s e)
+            (λ x. on_value Halts (stored op op_at (s (Variable (record { variable = v; component = i }))) x) (storing_at i))))
+            (component_same at index)
         ∙ ap (λ l. on_value Halts (component_in cells (var_width b v) at index)
         (λ i. on_value Halts (value [] l e) (λ x. on_value Halts (stored op op_at (s (Variable (record { variable = v; component = i }))) x) (storing_at i)))) is
         ∙ by_component v (variables_of s) op op_at (component_in cells (var_width b v) at index) (value [] cells e) (var_width b v)

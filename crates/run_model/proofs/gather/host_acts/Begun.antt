@@ -14,7 +14,8 @@ pub record Begun (vars : List VarValue) (starts : List ℕ) (next n : ℕ) : Typ
 pub begun_none : (vars : List VarValue) → Begun vars [] 0 0
 begun_none vars = record { count = refl; each = λ v lt. absurd (omega arith); next_is = refl }
 
-pub begun_more : (vars : List VarValue) (starts more : List ℕ) (next after n k : ℕ) → Begun vars starts next n → more ≡ starts ++ next ∷ [] → k ≡ n + 1 → after ≡ var_start (of_vars vars) (suc n) → Begun vars more after k
+pub begun_more : (vars : List VarValue) (starts more : List ℕ) (next after n k : ℕ) → Begun vars starts next n → more ≡ starts ++ next ∷ []
+    → k ≡ n + 1 → after ≡ var_start (of_vars vars) (suc n) → Begun vars more after k
 begun_more vars starts more next after n k h e i a = record {
   count = ap length e ∙ (length-append starts (next ∷ []) ∙ (let c = h.count in omega arith));
   each = λ v lt. ap (λ l. get_or l v 0) e ∙ below_more (λ w. get_or (starts ++ next ∷ []) w 0 ≡ var_start (of_vars vars) w) n

@@ -34,8 +34,10 @@ loop-rank-preserved c =
     subst (λ z. AreNewPlaces c.args.size c.index.result.now.blocks.items c.index.result.now.inner.items z v) core c.in_ok-new_places.ensures in
     let here : AreNewPlaces c.args.size (blocks_of cs r) (inner_of cs r) (core_in (sets_of c.args.ranks.now r) c.args.set) v =
     subst (λ (z : List ℕ). AreNewPlaces c.args.size z (inner_of cs r) (core_in (sets_of c.args.ranks.now r) c.args.set) v) (blocks_read cs r c.index.result.now lc c.index.ensures)
-    (subst (λ (z : List ℕ). AreNewPlaces c.args.size c.index.result.now.blocks.items z (core_in (sets_of c.args.ranks.now r) c.args.set) v) (inner_read cs r c.index.result.now lc c.index.ensures) made) in
+    (subst (λ (z : List ℕ). AreNewPlaces c.args.size c.index.result.now.blocks.items z (core_in (sets_of c.args.ranks.now r) c.args.set) v)
+        (inner_read cs r c.index.result.now lc c.index.ensures) made) in
     rw c.in_ok-push.ensures.items (record {
       count = omega (arith, length_push xs v, c.loop-rank.invariant.count);
-      places = one_more (λ a w. AreNewPlaces c.args.size (blocks_of cs a) (inner_of cs a) (core_in (sets_of c.args.ranks.now a) c.args.set) w) no_run xs v r c.loop-rank.invariant.count here c.loop-rank.invariant.places;
+      places = one_more (λ a w. AreNewPlaces c.args.size (blocks_of cs a) (inner_of cs a) (core_in (sets_of c.args.ranks.now a) c.args.set)
+          w) no_run xs v r c.loop-rank.invariant.count here c.loop-rank.invariant.places;
     })

@@ -60,7 +60,8 @@ module _ (faulty : Bool) where
   good_cond b v w gv gw = cond_both b v w (FitsSigned w32) gv (λ t. gw)
 
   good_written : (e : ℕ) (s : Store) → e < 2 → InRange s → InRange (written e s)
-  good_written e s lt g (Data c) = good_cond (is_x c && (c.element == e)) (int_wrap w32 (pos (suc e) +ℤ (s base +ℤ s base))) (s (Data c)) (λ t. SFits-int_wrap w32 (pos (suc e) +ℤ (s base +ℤ s base))) (g (Data c))
+  good_written e s lt g (Data c) = good_cond (is_x c && (c.element == e)) (int_wrap w32 (pos (suc e) +ℤ (s base +ℤ s base))) (s (Data c))
+      (λ t. SFits-int_wrap w32 (pos (suc e) +ℤ (s base +ℤ s base))) (g (Data c))
   good_written e s lt g (Variable v) = g (Variable v)
 
   good_added : (s : Store) → InRange s → InRange (added s)
@@ -93,7 +94,8 @@ module _ (faulty : Bool) where
   sum_alike true c a m d n same = (m, refl, ap (λ z. int_wrap w32 (d +ℤ z)) (sym same))
   sum_alike false c a m d n same = read_alike c a d
 
-  added_alike : (b c : Bool) (a m d n : ℤ) → (b ≡ true → c ≡ false) → m ≡ n → CellAlike (cond b Read (cond c (Merged Add) Untouched)) a (cond c (int_wrap w32 (a +ℤ m)) a) d (cond c (int_wrap w32 (d +ℤ n)) d)
+  added_alike : (b c : Bool) (a m d n : ℤ) → (b ≡ true → c ≡ false) → m ≡ n
+      → CellAlike (cond b Read (cond c (Merged Add) Untouched)) a (cond c (int_wrap w32 (a +ℤ m)) a) d (cond c (int_wrap w32 (d +ℤ n)) d)
   added_alike true true a m d n apart same = absurd (false≢true (sym (apart refl)))
   added_alike true false a m d n apart same = (refl, refl)
   added_alike false true a m d n apart same = (m, refl, ap (λ z. int_wrap w32 (d +ℤ z)) (sym same))
@@ -104,7 +106,8 @@ module _ (faulty : Bool) where
   reads_other e (suc n) = refl
 
   all_alike : (e : ℕ) (s w : Store) → ((c : Cell) → is_read (touch 1 e c) ≡ true → s c ≡ w c) → (c : Cell) → CellAlike (touch 1 e c) (s c) (added s c) (w c) (added w c)
-  all_alike e s w agree (Data c) = added_alike (is_x c) (is_r c) (s (Data c)) (s (x (other c.element))) (w (Data c)) (w (x (other c.element))) (x_no_r c) (agree (x (other c.element)) (reads_other e c.element))
+  all_alike e s w agree (Data c) = added_alike (is_x c) (is_r c) (s (Data c)) (s (x (other c.element))) (w (Data c))
+      (w (x (other c.element))) (x_no_r c) (agree (x (other c.element)) (reads_other e c.element))
   all_alike e s w agree (Variable v) = sum_alike (is_sum v) (is_one v) (s (Variable v)) (s one) (w (Variable v)) (w one) (agree one refl)
 
   unless_alike : (f : Bool) (e : ℕ) (cl : Cell → Touch) (s w t u : Store) → ((c : Cell) → CellAlike (cl c) (s c) (t c) (w c) (u c)) → Alike cl s w (unless f e t) (unless f e u)
@@ -112,7 +115,8 @@ module _ (faulty : Bool) where
   unless_alike false e cl s w t u h = h
 
   all_written : (e : ℕ) (s w : Store) → ((c : Cell) → is_read (touch 0 e c) ≡ true → s c ≡ w c) → (c : Cell) → CellAlike (touch 0 e c) (s c) (written e s c) (w c) (written e w c)
-  all_written e s w agree (Data c) = written_alike (is_x c && (c.element == e)) (int_wrap w32 (pos (suc e) +ℤ (s base +ℤ s base))) (int_wrap w32 (pos (suc e) +ℤ (w base +ℤ w base))) (s (Data c)) (w (Data c))
+  all_written e s w agree (Data c) = written_alike (is_x c && (c.element == e)) (int_wrap w32 (pos (suc e) +ℤ (s base +ℤ s base)))
+      (int_wrap w32 (pos (suc e) +ℤ (w base +ℤ w base))) (s (Data c)) (w (Data c))
       (ap (λ z. int_wrap w32 (pos (suc e) +ℤ (z +ℤ z))) (agree base refl))
   all_written e s w agree (Variable v) = read_alike (is_base v) (s (Variable v)) (w (Variable v))
 
@@ -130,7 +134,8 @@ module _ (faulty : Bool) where
   stays (suc (suc (suc zero))) e s t c od lt h m =
       let i : moved e s ≡ t = cc in
       ap (λ z. z (Data c)) (sym i)
-      ∙ cond-false (is_x c && (c.element == e)) (int_wrap w32 (s (Data c) +ℤ s (r e))) (s (Data c)) (and_left (is_x c) (c.element == e) (and_left (c.dat == 0) (nat_lt c.element 2 && (c.component == 0)) m))
+      ∙ cond-false (is_x c && (c.element == e)) (int_wrap w32 (s (Data c) +ℤ s (r e))) (s (Data c))
+          (and_left (is_x c) (c.element == e) (and_left (c.dat == 0) (nat_lt c.element 2 && (c.component == 0)) m))
   stays (suc (suc (suc (suc n)))) e s t c od lt h m = cc
 
   -- ---- touches
@@ -245,7 +250,8 @@ module _ (faulty : Bool) where
   covers (suc (suc (suc zero))) e c fr lt h = cc
   covers (suc (suc (suc (suc n)))) e c fr lt h = cc
 
-  core_modifies : (k t e : ℕ) (c : DatCell) → kind k ≡ Free → t < 2 → e < 2 → executes (ring faulty) k t e ≡ true → core t (set k) e ≡ true → is_modified (touch k e (Data c)) ≡ true → owner_of (ring faulty) c ≡ t
+  core_modifies : (k t e : ℕ) (c : DatCell) → kind k ≡ Free → t < 2 → e < 2 → executes (ring faulty) k t e ≡ true → core t (set k) e ≡ true
+      → is_modified (touch k e (Data c)) ≡ true → owner_of (ring faulty) c ≡ t
   core_modifies zero t e c fr lt le ex co h = writes_owned e c h ∙ eqb-true e t co
   core_modifies (suc zero) t e c fr lt le ex co h = absurd (false≢true co)
   core_modifies (suc (suc zero)) t e c fr lt le ex co h = cc
@@ -268,7 +274,9 @@ module _ (faulty : Bool) where
       let a : OfNode c 0 = of_node c 0 (is_read_x (is_x c) (is_r c) h) in
       ⊎_elim
       (λ (i : c.element ≡ t). inl (owner_in c a.below ∙ i))
-      (λ (ne : c.element ≡ t → ⊥). inr (and_from (nat_lt c.element 2) (false || (c.element == other t)) (lt-ltb c.element 2 a.below) (eq-eqb c.element (other t) (other_is t c.element lt a.below ne)), eq-eqb c.dat 0 a.of_dat, refl))
+      (λ (ne : c.element ≡ t → ⊥). inr
+          (and_from (nat_lt c.element 2) (false || (c.element == other t)) (lt-ltb c.element 2 a.below)
+          (eq-eqb c.element (other t) (other_is t c.element lt a.below ne)), eq-eqb c.dat 0 a.of_dat, refl))
       (cases_eq c.element t)
   core_reads (suc (suc zero)) t e c fr lt le ex h = cc
   core_reads (suc (suc (suc zero))) t e c fr lt le ex h = cc
@@ -292,7 +300,9 @@ module _ (faulty : Bool) where
   kernels = record {
     start_in_range = first_in_range;
     run_in_range = λ k e s t lp. good_run k e s t;
-    host_in_range = λ k s v o g h y. (let i : kept_variables s ≡ v = cc in subst (λ f. FitsSigned w32 (f y)) i (good_cond (is_variable y) (s (Variable y)) (pos 0) (λ t. g (Variable y)) (record { sfits = omega arith })));
+    host_in_range = λ k s v o g h y.
+        (let i : kept_variables s ≡ v = cc in subst (λ f. FitsSigned w32 (f y)) i
+        (good_cond (is_variable y) (s (Variable y)) (pos 0) (λ t. g (Variable y)) (record { sfits = omega arith })));
     independent = independent;
     stays = stays;
   }

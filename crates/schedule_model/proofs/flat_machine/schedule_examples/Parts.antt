@@ -99,7 +99,8 @@ hit d n c h =
     (eqb-true d c.dat a.0, eqb-true n c.element b.0, (let l : c.component < 1 = ltb-true c.component 1 b.1 in omega arith))
 
 is_hit : (d n : ℕ) (c : DatCell) → d ≡ c.dat → n ≡ c.element → c.component ≡ 0 → hits d n c ≡ true
-is_hit d n c i j k = and_from (d == c.dat) ((n == c.element) && nat_lt c.component 1) (eq-eqb d c.dat i) (and_from (n == c.element) (nat_lt c.component 1) (eq-eqb n c.element j) (lt-ltb c.component 1 (omega arith)))
+is_hit d n c i j k = and_from (d == c.dat) ((n == c.element) && nat_lt c.component 1) (eq-eqb d c.dat i)
+    (and_from (n == c.element) (nat_lt c.component 1) (eq-eqb n c.element j) (lt-ltb c.component 1 (omega arith)))
 
 abbrev of_dat : ℕ → DatCell → Bool
 of_dat d c = (c.dat == d) && (nat_lt c.element 2 && (c.component == 0))
@@ -110,14 +111,17 @@ component_0 d c h = eqb-true c.component 0 (and_parts (nat_lt c.element 2) (c.co
 hit_node : (d n : ℕ) (c : DatCell) → n < 2 → hits d n c ≡ true → of_dat d c ≡ true
 hit_node d n c lt h =
     let a : (d ≡ c.dat) × (n ≡ c.element) × (c.component ≡ 0) = hit d n c h in
-    and_from (c.dat == d) (nat_lt c.element 2 && (c.component == 0)) (eq-eqb c.dat d (sym a.0)) (and_from (nat_lt c.element 2) (c.component == 0) (lt-ltb c.element 2 (subst (λ z. z < 2) a.1 lt)) (eq-eqb c.component 0 a.2))
+    and_from (c.dat == d) (nat_lt c.element 2 && (c.component == 0)) (eq-eqb c.dat d (sym a.0))
+        (and_from (nat_lt c.element 2) (c.component == 0) (lt-ltb c.element 2 (subst (λ z. z < 2) a.1 lt)) (eq-eqb c.component 0 a.2))
 
 -- a node's cell is hit from one side or the other
 both_sides : (d e : ℕ) (c : DatCell) → e < 2 → of_dat d c ≡ (hits d e c || hits d (other e) c)
 both_sides d e c lt = iff_eq (of_dat d c) (hits d e c || hits d (other e) c)
     (λ h. ⊎_elim
     (λ (i : c.element ≡ e). or_left (hits d e c) (hits d (other e) c) (is_hit d e c (sym (of_node c d h).of_dat) (sym i) (component_0 d c h)))
-    (λ (ne : c.element ≡ e → ⊥). or_right (hits d e c) (hits d (other e) c) (is_hit d (other e) c (sym (of_node c d h).of_dat) (sym (other_is false e c.element lt (of_node c d h).below ne)) (component_0 d c h)))
+    (λ (ne : c.element ≡ e → ⊥). or_right (hits d e c) (hits d (other e) c)
+        (is_hit d (other e) c (sym (of_node c d h).of_dat) (sym (other_is false e c.element lt (of_node c d h).below ne))
+        (component_0 d c h)))
     (cases_eq c.element e))
     (λ h. ⊎_elim (λ t. hit_node d e c lt t) (λ t. hit_node d (other e) c (below false e lt) t) (or_cases (hits d e c) (hits d (other e) c) h))
 
@@ -129,7 +133,8 @@ own_side e c lt = iff_eq (is_x c && (c.element == e)) (hits 0 e c)
 
 abbrev fold_touch : Bool → Bool → Bool → Bool → Touch
 fold_touch b0 b1 b2 b3 =
-    cond b3 (joined (cond b2 (joined (cond b1 (joined (cond b0 Read Untouched) OpRead) (cond b0 Read Untouched)) (OpReduce Add)) (cond b1 (joined (cond b0 Read Untouched) OpRead) (cond b0 Read Untouched))) (OpReduce Add))
+    cond b3 (joined (cond b2 (joined (cond b1 (joined (cond b0 Read Untouched) OpRead) (cond b0 Read Untouched)) (OpReduce Add))
+        (cond b1 (joined (cond b0 Read Untouched) OpRead) (cond b0 Read Untouched))) (OpReduce Add))
     (cond b2 (joined (cond b1 (joined (cond b0 Read Untouched) OpRead) (cond b0 Read Untouched)) (OpReduce Add)) (cond b1 (joined (cond b0 Read Untouched) OpRead) (cond b0 Read Untouched)))
 
 by_tests : (b0 b1 b2 b3 : Bool) → ((b0 || b1) ≡ true → (b2 || b3) ≡ false) → cond (b0 || b1) Read (cond (b2 || b3) (Merged Add) Untouched) ≡ fold_touch b0 b1 b2 b3
@@ -159,7 +164,8 @@ module _ (faulty : Bool) where
   touch_is k e c fr lt = first_two (λ k. touch k e (Data c) ≡ touch_by entry of_one of_one (arg (site k)) (args (site k)) e (Data c))
       (ap (λ b. cond b Written Untouched) (own_side e c lt)) (edge_touch e c lt) k fr
 
-  variable_touch : (k e : ℕ) (v : VarCell) (o : Reduction) → kind k ≡ Free → reduces (site k) v ≡ Some o → touch k e (Variable v) ≡ touch_by entry of_one of_one (arg (site k)) (args (site k)) e (Variable v)
+  variable_touch : (k e : ℕ) (v : VarCell) (o : Reduction) → kind k ≡ Free → reduces (site k) v ≡ Some o
+      → touch k e (Variable v) ≡ touch_by entry of_one of_one (arg (site k)) (args (site k)) e (Variable v)
   variable_touch k e v o fr = first_two (λ k. reduces (site k) v ≡ Some o → touch k e (Variable v) ≡ touch_by entry of_one of_one (arg (site k)) (args (site k)) e (Variable v))
       (λ h. cc)
       (λ h. subst (λ z. touch 1 e (Variable z) ≡ touch_by entry of_one of_one (arg 1) 5 e (Variable z)) (sym (sum_is v (sum_only faulty (is_sum v) o h))) refl) k fr
@@ -172,13 +178,15 @@ module _ (faulty : Bool) where
   add_only true o h = (let e : Add ≡ o = cc in sym e)
   add_only false o h = cc
 
-  reduces_only : (k : ℕ) (v : VarCell) (o : Reduction) → kind k ≡ Free → reduces (site k) v ≡ Some o → (a : ℕ) × (a < args (site k)) × (arg (site k) a ≡ Global v.variable (OpReduce o)) × (v.component < 1)
+  reduces_only : (k : ℕ) (v : VarCell) (o : Reduction) → kind k ≡ Free → reduces (site k) v ≡ Some o → (a : ℕ) × (a < args (site k))
+      × (arg (site k) a ≡ Global v.variable (OpReduce o)) × (v.component < 1)
   reduces_only k v o fr = first_two (λ k. reduces (site k) v ≡ Some o → (a : ℕ) × (a < args (site k)) × (arg (site k) a ≡ Global v.variable (OpReduce o)) × (v.component < 1))
       (λ h. absurd (let n : None ≡ Some o = h in cc))
       (λ h.
       let i : v ≡ sum_cell = sum_is v (sum_only faulty (is_sum v) o h) in
       let a : o ≡ Add = add_only (is_sum v) o h in
-      (4, omega arith, ap (λ z. Global z (OpReduce Add)) (sym (ap (λ z. z.variable) i)) ∙ ap (λ z. Global v.variable (OpReduce z)) (sym a), (let j : v.component ≡ 0 = ap (λ z. z.component) i in omega arith))) k fr
+      (4, omega arith, ap (λ z. Global z (OpReduce Add)) (sym (ap (λ z. z.variable) i)) ∙ ap (λ z. Global v.variable (OpReduce z)) (sym a),
+          (let j : v.component ≡ 0 = ap (λ z. z.component) i in omega arith))) k fr
 
   -- ---- halos
   execute_if : (r s e : ℕ) → r < 2 → e < 2 → (e ≡ r → ⊥) → 1 ≡ s → import_execute r s e ≡ true
@@ -226,16 +234,19 @@ module _ (faulty : Bool) where
     reduces_only = reduces_only;
     touch_is = touch_is;
     variable_touch = λ k e v o fr lt h. variable_touch k e v o fr h;
-    constant_touch = λ k e v fr lt. first_two (λ k. reduces (site k) v ≡ None → is_modified (touch k e (Variable v)) ≡ false) (λ h. only_read faulty (is_base v)) (λ h. none_merged (is_sum v) (is_one v) h) k fr;
+    constant_touch = λ k e v fr lt. first_two (λ k. reduces (site k) v ≡ None → is_modified (touch k e (Variable v)) ≡ false)
+        (λ h. only_read faulty (is_base v)) (λ h. none_merged (is_sum v) (is_one v) h) k fr;
     free_is = λ k b d fr. first_two (λ k. b < args (site k) → is_on d (arg (site k) b) ≡ true → modifying (access_of (arg (site k) b)) ≡ true
-        → ((o : Reduction) × ((a : ℕ) → a < args (site k) → is_on d (arg (site k) a) ≡ true → access_of (arg (site k) a) ≡ OpReduce o)) ⊎ ((a : ℕ) → a < args (site k) → is_on d (arg (site k) a) ≡ true → is_direct (arg (site k) a) ≡ true))
+        → ((o : Reduction) × ((a : ℕ) → a < args (site k) → is_on d (arg (site k) a) ≡ true → access_of (arg (site k) a) ≡ OpReduce o))
+            ⊎ ((a : ℕ) → a < args (site k) → is_on d (arg (site k) a) ≡ true → is_direct (arg (site k) a) ≡ true))
         (λ lb on md. inr (λ a la u. (direct_on a d u).0))
         (λ lb on md. inl (Add, λ a la u. adds_r a (ap (λ z. is_on z (of_edges a)) (sym (modifies_r b d on md)) ∙ u))) k fr;
     modifies_is = λ k a d fr. first_two (λ k. a < args (site k) → is_on d (arg (site k) a) ≡ true → modifying (access_of (arg (site k) a)) ≡ true → modifies k d ≡ true)
         (λ la on md. eq-eqb d 0 (sym (direct_on a d on).1)) (λ la on md. eq-eqb d 1 (modifies_r a d on md)) k fr;
     modifies_only = λ k d fr. first_two (λ k. modifies k d ≡ true → (a : ℕ) × (a < args (site k)) × (is_on d (arg (site k) a) ≡ true) × (modifying (access_of (arg (site k) a)) ≡ true))
         (λ h. (0, omega arith, eq-eqb 0 d (sym (eqb-true d 0 h)), refl)) (λ h. (2, omega arith, eq-eqb 1 d (sym (eqb-true d 1 h)), refl)) k fr;
-    scatters_is = λ k a d m i o fr. first_two (λ k. a < args (site k) → arg (site k) a ≡ Indirect d m i (OpReduce o) → (k == 1) ≡ true) (λ la h. absurd (no_indirect a d m i (OpReduce o) h)) (λ la h. refl) k fr;
+    scatters_is = λ k a d m i o fr. first_two (λ k. a < args (site k) → arg (site k) a ≡ Indirect d m i (OpReduce o) → (k == 1) ≡ true)
+        (λ la h. absurd (no_indirect a d m i (OpReduce o) h)) (λ la h. refl) k fr;
     needs_indirect = λ k a d m i fr. first_two (λ k. a < args (site k) → arg (site k) a ≡ Indirect d m i OpRead → needs k d ≡ true)
         (λ la h. absurd (no_indirect a d m i OpRead h)) (λ la h. eq-eqb d 0 (reads_x a d m i h)) k fr;
     needs_direct = λ k a d y fr. first_two (λ k. a < args (site k) → arg (site k) a ≡ Direct d y → reading y ≡ true → (k == 1) ≡ true → needs k d ≡ true)

@@ -17,7 +17,9 @@ reversed : (l pre : List Step) (s : Step) (post : List Step) (t : Step) → l �
 reversed l pre s post t e plan early none acc = false≢true (sym none ∙ acc.order pre s post e t plan early)
 
 pub item_refused : Accepts item_reversed → ⊥
-item_refused = reversed item_reversed (Begin 0 0 0 ∷ []) (Send 1 0 1) ((End 0 0 0 ∷ Begin 0 1 1 ∷ End 0 1 1 ∷ []) ++ ((Send 1 1 0 ∷ Recv 1 0 1 ∷ Recv 1 1 0 ∷ []) ++ (edges_on_0 ++ (edges_on_1 ++ joins)))) (End 0 0 0) refl
+item_refused = reversed item_reversed (Begin 0 0 0 ∷ []) (Send 1 0 1)
+    ((End 0 0 0 ∷ Begin 0 1 1 ∷ End 0 1 1 ∷ []) ++ ((Send 1 1 0 ∷ Recv 1 0 1 ∷ Recv 1 1 0 ∷ []) ++ (edges_on_0 ++ (edges_on_1 ++ joins))))
+    (End 0 0 0) refl
     (omega arith, refl, omega arith, refl) (by_item 0 refl refl (omega arith)) refl
 
 pub join_refused : Accepts join_reversed → ⊥
@@ -29,7 +31,8 @@ send_refused = reversed send_reversed (nodes ++ (Send 1 0 1 ∷ [])) (Recv 1 0 1
     (omega arith, refl, omega arith, omega arith, refl) sent refl
 
 pub receive_refused : Accepts receive_reversed → ⊥
-receive_refused = reversed receive_reversed (nodes ++ (Send 1 0 1 ∷ Send 1 1 0 ∷ [])) (Begin 1 0 1) ((Recv 1 0 1 ∷ Recv 1 1 0 ∷ []) ++ ((End 1 0 1 ∷ Begin 1 0 0 ∷ End 1 0 0 ∷ []) ++ (edges_on_1 ++ joins))) (Recv 1 0 1) refl
+receive_refused = reversed receive_reversed (nodes ++ (Send 1 0 1 ∷ Send 1 1 0 ∷ [])) (Begin 1 0 1)
+    ((Recv 1 0 1 ∷ Recv 1 1 0 ∷ []) ++ ((End 1 0 1 ∷ Begin 1 0 0 ∷ End 1 0 0 ∷ []) ++ (edges_on_1 ++ joins))) (Recv 1 0 1) refl
     (omega arith, refl, omega arith, omega arith, refl) (received refl) refl
 
 pub end_refused : Accepts end_reversed → ⊥

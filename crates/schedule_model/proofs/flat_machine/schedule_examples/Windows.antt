@@ -84,7 +84,9 @@ all = x 0 ∷ x 1 ∷ r 0 ∷ r 1 ∷ sum ∷ []
 -- a cell that is neither r's nor the sum keeps its value
 not_r : (s : Store) (c : DatCell) → is_r c ≡ false → s (Data c) ≡ lookup all (new s) (Data c) (s (Data c))
 not_r s c h = sym (
-    one_of (x 0) (Data c) (s (x 0)) (lookup (x 1 ∷ r 0 ∷ r 1 ∷ sum ∷ []) (s (x 1) ∷ int_wrap w32 (s (r 0) +ℤ s (x 1)) ∷ int_wrap w32 (s (r 1) +ℤ s (x 0)) ∷ int_wrap w32 (s sum +ℤ s one) ∷ []) (Data c) (s (Data c))) (λ i. ap s i ∙ sym rest)
+    one_of (x 0) (Data c) (s (x 0))
+        (lookup (x 1 ∷ r 0 ∷ r 1 ∷ sum ∷ []) (s (x 1) ∷ int_wrap w32 (s (r 0) +ℤ s (x 1)) ∷ int_wrap w32 (s (r 1) +ℤ s (x 0))
+        ∷ int_wrap w32 (s sum +ℤ s one) ∷ []) (Data c) (s (Data c))) (λ i. ap s i ∙ sym rest)
     ∙ rest)
   where
     no : (n : ℕ) → n < 2 → r n ≡ Data c → ⊥
@@ -139,7 +141,8 @@ module _ (faulty : Bool) where
   same_length (suc zero) e cs (a ∷ b ∷ []) us lp lt h i = absurd (omega arith)
   same_length (suc zero) e cs (a ∷ b ∷ c ∷ []) us lp lt h i = absurd (omega arith)
   same_length (suc zero) e cs (a ∷ b ∷ c ∷ d ∷ []) us lp lt h i = absurd (omega arith)
-  same_length (suc zero) e cs (a ∷ b ∷ c ∷ d ∷ s ∷ []) us lp lt h i = unless_length faulty e (a ∷ b ∷ int_wrap w32 (c +ℤ b) ∷ int_wrap w32 (d +ℤ a) ∷ int_wrap w32 (s +ℤ constant_of cs) ∷ []) us 5 refl i
+  same_length (suc zero) e cs (a ∷ b ∷ c ∷ d ∷ s ∷ []) us lp lt h i =
+      unless_length faulty e (a ∷ b ∷ int_wrap w32 (c +ℤ b) ∷ int_wrap w32 (d +ℤ a) ∷ int_wrap w32 (s +ℤ constant_of cs) ∷ []) us 5 refl i
   same_length (suc zero) e cs (a ∷ b ∷ c ∷ d ∷ s ∷ t ∷ ws) us lp lt h i = absurd (omega arith)
   same_length (suc (suc n)) e cs [] us lp lt h i = absurd (omega arith)
   same_length (suc (suc n)) e cs (a ∷ []) us lp lt h i = absurd (omega arith)

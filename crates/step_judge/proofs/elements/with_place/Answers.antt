@@ -5,7 +5,9 @@ use Rattle.step_judge.proofs.FirstPlaces.{kept, lower, stays, runs_here, colours
 use Rattle.step_judge.proofs.elements.with_place.Goals as goal
 
 pub returns-then-not-is_place_wanted-clause-first : goal.returns-then-not-is_place_wanted-clause-first
-returns-then-not-is_place_wanted-clause-first c o m h = kept o (wanted c.args.marks.now c.args.later) c.args.item c.args.rank c.args.place c.args.best (sym c.is_place_wanted.ensures ∙ c.if-not-is_place_wanted.true) h
+returns-then-not-is_place_wanted-clause-first c o m h =
+    kept o (wanted c.args.marks.now c.args.later) c.args.item c.args.rank c.args.place c.args.best
+    (sym c.is_place_wanted.ensures ∙ c.if-not-is_place_wanted.true) h
 
 pub returns-then-is_lower-clause-first : goal.returns-then-is_lower-clause-first
 returns-then-is_lower-clause-first c o m h =

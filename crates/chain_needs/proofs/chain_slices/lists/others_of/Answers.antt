@@ -20,7 +20,9 @@ loop-element-preserved c =
     let l : e < set_size b.mesh (dat_set b.mesh c.args.dat) = omega arith in
     rw c.in_ok-push.ensures.items (
       omega (arith, length_push c.loop-element.sets.items c.other_ranks.result),
-      has_more_below c.loop-element.sets.items c.other_ranks.result e (λ y r. pairs_of c.args.needed.now r c.args.dat y && not (owns_pair b o r c.args.dat y)) c.loop-element.invariant.0 c.loop-element.invariant.1
+      has_more_below c.loop-element.sets.items c.other_ranks.result e
+          (λ y r. pairs_of c.args.needed.now r c.args.dat y && not (owns_pair b o r c.args.dat y)) c.loop-element.invariant.0
+          c.loop-element.invariant.1
           (λ r lr. c.other_ranks.ensures r lr ∙ (ap (λ z. z && not (nat_eq r c.rank_of.result)) (c.ranks_at-ranks.ensures r)
           ∙ ap (λ z. pairs_of c.args.needed.now r c.args.dat e && not z) (owner_is b o c.args.dat e r c.rank_of.result l (c.rank_of.ensures ∙ ap (λ z. owner_of o z e) set)))),
     )

@@ -20,7 +20,8 @@ overflow_add-messages c =
     let is : c.messages_at-messages.result ≡ chain_messages b o (loops_from b k) =
     messages_here b o c.deref-then-begins_chain.result.now k c.in_ok-place.place c.messages_at-messages.result
     (subst (Rattle.chain_needs.specs.Slices.AreShapes b o) (sym c.deref-then-begins_chain.ensures.value) c.in_ok-place.ensures.shapes)
-    (subst (λ (z : List Shape). Rattle.chain_needs.specs.Slices.IsPlace b z k c.in_ok-place.place) (sym c.deref-then-begins_chain.ensures.value) c.in_ok-place.ensures.place) first c.messages_at-messages.ensures in
+    (subst (λ (z : List Shape). Rattle.chain_needs.specs.Slices.IsPlace b z k c.in_ok-place.place)
+        (sym c.deref-then-begins_chain.ensures.value) c.in_ok-place.ensures.place) first c.messages_at-messages.ensures in
     let le : chain_messages b o (loops_from b k) ≤ 4096 = few_messages b o (loops_from b k) c.requires.owners.few_ranks in
     let n : length (bound_of c.args.bound.now).trace ≡ length c.args.bound.now.trace.items = length-map c.args.bound.now.trace.items item_of in
     omega (arith, c.loop-item.invariant.few, c.requires.fits.few, c.len-item-end.ensures)
@@ -31,14 +32,16 @@ loop-item-preserved c =
     let o = c.args.owners.now in
     let k = c.loop-item.item in
     let f = item_messages b o in
-    let placed = places_push b c.loop-item.shapes.items c.place_of.new.shapes.items k c.loop-item.places.items c.in_ok-place.place c.in_ok-place.ensures.keeps c.loop-item.invariant.places c.in_ok-place.ensures.place in
+    let placed = places_push b c.loop-item.shapes.items c.place_of.new.shapes.items k c.loop-item.places.items c.in_ok-place.place
+        c.in_ok-place.ensures.keeps c.loop-item.invariant.places c.in_ok-place.ensures.place in
     elim c.if-begins_chain.branch [
       | then-begins_chain w ↦
           let first : begins_at b k ≡ Rattle.std.proofs.Common.true = sym c.begins_chain.ensures ∙ w.if-begins_chain.true in
           let is : w.messages_at-messages.result ≡ chain_messages b o (loops_from b k) =
           messages_here b o w.deref-then-begins_chain.result.now k c.in_ok-place.place w.messages_at-messages.result
           (subst (Rattle.chain_needs.specs.Slices.AreShapes b o) (sym w.deref-then-begins_chain.ensures.value) c.in_ok-place.ensures.shapes)
-          (subst (λ (z : List Shape). Rattle.chain_needs.specs.Slices.IsPlace b z k c.in_ok-place.place) (sym w.deref-then-begins_chain.ensures.value) c.in_ok-place.ensures.place) first w.messages_at-messages.ensures in
+          (subst (λ (z : List Shape). Rattle.chain_needs.specs.Slices.IsPlace b z k c.in_ok-place.place)
+              (sym w.deref-then-begins_chain.ensures.value) c.in_ok-place.ensures.place) first w.messages_at-messages.ensures in
           let le : chain_messages b o (loops_from b k) ≤ 4096 = few_messages b o (loops_from b k) c.requires.owners.few_ranks in
           let g = grown k f c.loop-item.messages c.if-begins_chain.messages w.messages_at-messages.result c.loop-item.invariant.messages c.loop-item.invariant.few
           (is ∙ sym (begun_messages b o k first)) (omega arith) w.messages-is in

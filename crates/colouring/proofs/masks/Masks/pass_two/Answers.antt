@@ -27,7 +27,8 @@ loop-end-preserved c =
     record {
       from = omega arith;
       on = n.from;
-      filled = filled_on m c.args.a c.args.b c.args.number c.loop-end.next c.in_ok-next-2.next i.filled (kept_filled m c.loop-end.self i.kept c.args.a c.args.b c.loop-end.next c.in_ok-next-2.next n.filled);
+      filled = filled_on m c.args.a c.args.b c.args.number c.loop-end.next c.in_ok-next-2.next i.filled
+          (kept_filled m c.loop-end.self i.kept c.args.a c.args.b c.loop-end.next c.in_ok-next-2.next n.filled);
       sound = n.sound;
       kept = kept_twice m c.loop-end.self c.pass_some-in-loop-end.new.self i.kept n.kept;
       few = omega arith;

@@ -9,7 +9,10 @@ use Rattle.local_mesh.proofs.halo_lists.Importing.{execute_below, nonexecute_bel
 use Rattle.local_mesh.proofs.halo_lists.split.add_element.Goals as goal
 
 -- one more number in each of some lists
-list_more : (now old : List (Vec ℕ Global)) (ranks n : ℕ) (p : ℕ → ℕ → Bool) (q : ℕ → Bool) → ((r : ℕ) → r < ranks → row old r ≡ listed n (λ x. p x r)) → ((r : ℕ) → r < ranks → q r ≡ p n r) → ((r : ℕ) → r < ranks → row now r ≡ row old r ++ cond (q r) (n ∷ []) []) → (r : ℕ) → r < ranks → row now r ≡ listed (n + 1) (λ x. p x r)
+list_more : (now old : List (Vec ℕ Global)) (ranks n : ℕ) (p : ℕ → ℕ → Bool) (q : ℕ → Bool)
+    → ((r : ℕ) → r < ranks → row old r ≡ listed n (λ x. p x r)) → ((r : ℕ) → r < ranks → q r ≡ p n r)
+    → ((r : ℕ) → r < ranks → row now r ≡ row old r ++ cond (q r) (n ∷ []) []) → (r : ℕ) → r < ranks
+    → row now r ≡ listed (n + 1) (λ x. p x r)
 list_more now old ranks n p q h k m r l = listed_step (row now r) (row old r) n (λ x. p x r) (h r l) (m r l ∙ ap (λ z. row old r ++ cond z (n ∷ []) []) (k r l))
 
 pub push_each-requires : goal.push_each-requires
@@ -22,7 +25,9 @@ push_each-requires c =
     record {
       few = omega (arith, n, b, k, c.requires.owners.few_ranks);
       ranks = λ r l t. (let lr = execute_below g o c.args.set c.args.element r c.is_in_range.ensures c.requires.owners c.requires.element
-          (sym (execute_has g o c.args.set c.args.element c.rank_of-owner.result c.args.executing c.empty.result c.with.result c.minus-exec.result c.rank_of-owner.ensures c.requires.executing c.empty.ensures c.with.ensures c.minus-exec.ensures r l) ∙ t) in omega (arith, n, b, k, lr));
+          (sym (execute_has g o c.args.set c.args.element c.rank_of-owner.result c.args.executing c.empty.result c.with.result
+              c.minus-exec.result c.rank_of-owner.ensures c.requires.executing c.empty.ensures c.with.ensures c.minus-exec.ensures r l) ∙ t)
+              in omega (arith, n, b, k, lr));
     }
 
 pub push_each-requires-2 : goal.push_each-requires-2
@@ -35,7 +40,8 @@ push_each-requires-2 c =
     record {
       few = omega (arith, n, b, k, c.requires.owners.few_ranks);
       ranks = λ r l t. (let lr = nonexecute_below g o c.args.set c.args.element r c.is_in_range.ensures c.requires.owners
-          (sym (nonexecute_has g o c.args.set c.args.element c.args.executing c.args.naming c.minus-nonexec.result c.requires.executing c.requires.naming c.minus-nonexec.ensures r l) ∙ t) in omega (arith, n, b, k, lr));
+          (sym (nonexecute_has g o c.args.set c.args.element c.args.executing c.args.naming c.minus-nonexec.result c.requires.executing
+              c.requires.naming c.minus-nonexec.ensures r l) ∙ t) in omega (arith, n, b, k, lr));
     }
 
 pub push_export-requires : goal.push_export-requires
@@ -45,7 +51,8 @@ push_export-requires c =
     let b = c.requires.before in
     let e : c.deref_mut-3.result.now ≡ c.args.halo.now.exports.items = c.deref_mut-3.ensures.value in
     let n : length c.deref_mut-3.result.now ≡ o.ranks = ap (length {A = Vec (Vec ℕ Global) Global}) e ∙ b.export_count in
-    let exec = execute_has g o c.args.set c.args.element c.rank_of-owner.result c.args.executing c.empty.result c.with.result c.minus-exec.result c.rank_of-owner.ensures c.requires.executing c.empty.ensures c.with.ensures c.minus-exec.ensures in
+    let exec = execute_has g o c.args.set c.args.element c.rank_of-owner.result c.args.executing c.empty.result c.with.result
+        c.minus-exec.result c.rank_of-owner.ensures c.requires.executing c.empty.ensures c.with.ensures c.minus-exec.ensures in
     let nonexec = nonexecute_has g o c.args.set c.args.element c.args.executing c.args.naming c.minus-nonexec.result c.requires.executing c.requires.naming c.minus-nonexec.ensures in
     let either = imports_has g o c.args.set c.args.element c.minus-exec.result c.minus-nonexec.result c.union.result exec nonexec c.union.ensures in
     record {
@@ -64,7 +71,8 @@ returns c =
     let h = c.args.halo.now in
     let b = c.requires.before in
     let few : o.ranks ≤ 64 = c.requires.owners.few_ranks in
-    let exec = execute_has g o s x c.rank_of-owner.result c.args.executing c.empty.result c.with.result c.minus-exec.result c.rank_of-owner.ensures c.requires.executing c.empty.ensures c.with.ensures c.minus-exec.ensures in
+    let exec = execute_has g o s x c.rank_of-owner.result c.args.executing c.empty.result c.with.result c.minus-exec.result
+        c.rank_of-owner.ensures c.requires.executing c.empty.ensures c.with.ensures c.minus-exec.ensures in
     let nonexec = nonexecute_has g o s x c.args.executing c.args.naming c.minus-nonexec.result c.requires.executing c.requires.naming c.minus-nonexec.ensures in
     let either = imports_has g o s x c.minus-exec.result c.minus-nonexec.result c.union.result exec nonexec c.union.ensures in
     let n1 : length c.push_each.new.lists ≡ h.exec.len = c.push_each.auto.lists ∙ c.deref_mut.ensures.len in
@@ -85,9 +93,13 @@ returns c =
           (λ r l. c.in_ok-push_each-2.ensures r (rw l2 l) ∙ ap (λ (z : List (Vec ℕ Global)). row z r ++ cond (has c.minus-nonexec.result r) (x ∷ []) []) c.deref_mut-2.ensures.value));
       export_count = rw e3 (c.push_export.auto.exports ∙ l3);
       export_counts = rw e3 (λ a l. c.in_ok-push_export.ensures.lengths a (rw l3 l) ∙ l3);
-      exports = rw e3 (λ a r la l. list_more (rows c.push_export.new.exports a) (rows h.exports.items a) o.ranks x (λ y q. imports g o s y q && owns o s y a) (λ q. has c.union.result q && nat_eq c.rank_of-owner.result a) (λ q lq. b.exports a q la lq)
+      exports = rw e3 (λ a r la l. list_more (rows c.push_export.new.exports a) (rows h.exports.items a) o.ranks x
+          (λ y q. imports g o s y q && owns o s y a) (λ q. has c.union.result q && nat_eq c.rank_of-owner.result a)
+          (λ q lq. b.exports a q la lq)
           (λ q lq. owned_pair g o s x c.rank_of-owner.result (has c.union.result q) a q c.rank_of-owner.ensures (either q (omega (arith, lq, few))))
-          (λ q lq. c.in_ok-push_export.ensures.pushed a q (rw l3 la) (rw l3 lq) ∙ ap (λ (z : List (Vec (Vec ℕ Global) Global)). row (rows z a) q ++ cond (has c.union.result q && nat_eq c.rank_of-owner.result a) (x ∷ []) []) c.deref_mut-3.ensures.value) r l);
+          (λ q lq. c.in_ok-push_export.ensures.pushed a q (rw l3 la) (rw l3 lq)
+              ∙ ap (λ (z : List (Vec (Vec ℕ Global) Global)). row (rows z a) q ++ cond
+              (has c.union.result q && nat_eq c.rank_of-owner.result a) (x ∷ []) []) c.deref_mut-3.ensures.value) r l);
       core_count = rw c.in_ok-push.ensures.items (omega (arith, length_push h.core.items c.is_empty.result, b.core_count));
       core = rw c.in_ok-push.ensures.items (core_more g o s x h.core.items c.is_empty.result c.is_in_range.ensures c.requires.owners c.requires.set c.requires.element b.core_count b.core
           (λ t r l. sym (exec r l) ∙ c.is_empty.ensures.0 t r l, λ k. c.is_empty.ensures.1 (λ r l. exec r l ∙ k r l)));

@@ -7,7 +7,9 @@ use Rattle.local_mesh.specs.Lookup.{Finds}
 use Rattle.local_mesh.proofs.originals.Originals.local_of.Goals as goal
 
 -- what is found among different numbers is where it stands
-found_at : (xs : List ℕ) (x : ℕ) (r : Option ℕ) → ((j k : ℕ) → j < k → k < length xs → get_or xs j 0 ≢ get_or xs k 0) → IfSome r (λ l. (l < length xs) × (get_or xs l 0 ≡ x)) → IfNone r ((k : ℕ) → k < length xs → get_or xs k 0 ≢ x) → (k : ℕ) → k < length xs → get_or xs k 0 ≡ x → r ≡ Some k
+found_at : (xs : List ℕ) (x : ℕ) (r : Option ℕ) → ((j k : ℕ) → j < k → k < length xs → get_or xs j 0 ≢ get_or xs k 0)
+    → IfSome r (λ l. (l < length xs) × (get_or xs l 0 ≡ x)) → IfNone r ((k : ℕ) → k < length xs → get_or xs k 0 ≢ x) → (k : ℕ)
+    → k < length xs → get_or xs k 0 ≡ x → r ≡ Some k
 found_at xs x (Some l) apart h n k lk e = ap Some (⊎_elim
     (λ (q : l ≡ k). q)
     (λ (o : (l < k) ⊎ (k < l)). ⊎_elim

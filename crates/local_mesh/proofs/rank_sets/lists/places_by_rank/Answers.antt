@@ -8,7 +8,8 @@ use Rattle.local_mesh.proofs.rank_sets.lists.places_by_rank.Goals as goal
 
 pub push_each-requires-clause-ranks : goal.push_each-requires-clause-ranks
 unfolding has_at
-push_each-requires-clause-ranks c = λ r l h. let b : r < c.args.ranks = c.requires.below c.loop-place.place r (omega arith) l h in omega (arith, c.deref_mut.ensures.len, c.loop-place.invariant.0, c.loop-place.lists.ok.0)
+push_each-requires-clause-ranks c = λ r l h. let b : r < c.args.ranks = c.requires.below c.loop-place.place r (omega arith) l h in
+    omega (arith, c.deref_mut.ensures.len, c.loop-place.invariant.0, c.loop-place.lists.ok.0)
 
 pub loop-place-preserved : goal.loop-place-preserved
 unfolding has_at
@@ -21,5 +22,7 @@ loop-place-preserved c =
       same,
       λ r l. listed_step (row c.push_each.new.lists r) (row v.items r) c.loop-place.place (λ x. has_at c.args.sets.now x r)
           (c.loop-place.invariant.1 r l)
-          (c.in_ok-push_each.ensures r (omega (arith, c.push_each.auto.lists)) ∙ ap (λ (z : List (Vec ℕ Global)). row z r ++ cond (has_at c.args.sets.now c.loop-place.place r) (c.loop-place.place ∷ []) []) c.deref_mut.ensures.value),
+          (c.in_ok-push_each.ensures r (omega (arith, c.push_each.auto.lists))
+              ∙ ap (λ (z : List (Vec ℕ Global)). row z r ++ cond (has_at c.args.sets.now c.loop-place.place r) (c.loop-place.place ∷ []) [])
+              c.deref_mut.ensures.value),
     )

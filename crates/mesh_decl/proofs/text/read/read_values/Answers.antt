@@ -9,7 +9,9 @@ use Rattle.mesh_decl.proofs.text.read.read_values.Goals as goal
 pub returns-in_err-times-clause-leads : goal.returns-in_err-times-clause-leads
 returns-in_err-times-clause-leads c es name =
     passes_on step finish OutOfMemory (filled c.args.form es name c.args.count []) _ _ _ _ _ c.from_residual-in_err-times.ensures.1
-    (further step finish OutOfMemory (filled c.args.form es name c.args.count []) (filled c.args.form es name c.loop-left.left c.loop-left.values.items) _ _ _ (c.loop-left.invariant.runs es name) (c.in_err-times.ensures.leads es name c.loop-left.values.items))
+    (further step finish OutOfMemory (filled c.args.form es name c.args.count [])
+        (filled c.args.form es name c.loop-left.left c.loop-left.values.items) _ _ _ (c.loop-left.invariant.runs es name)
+        (c.in_err-times.ensures.leads es name c.loop-left.values.items))
 
 pub loop-left-preserved : goal.loop-left-preserved
 loop-left-preserved c =
@@ -20,6 +22,7 @@ loop-left-preserved c =
       runs = λ es name. c.loop-left.invariant.runs es name
           ∙ c.in_ok-times.ensures.leads es name c.loop-left.values.items
           ∙ ap (λ xs. run_from (filled c.args.form es name (c.loop-left.left - c.in_ok-times.times) xs) c.next_values.new.tokens) (sym items);
-      size = length-more c.loop-left.values.items c.add_values.new.values.items c.in_ok-times.times c.loop-left.left c.args.count c.in_ok-times.value items c.loop-left.invariant.size c.in_ok-times.ensures.some.1;
+      size = length-more c.loop-left.values.items c.add_values.new.values.items c.in_ok-times.times c.loop-left.left c.args.count
+          c.in_ok-times.value items c.loop-left.invariant.size c.in_ok-times.ensures.some.1;
       fewer = omega (arith, c.in_ok-times.ensures.fewer, c.loop-left.invariant.fewer);
     }

@@ -15,7 +15,9 @@ pub loop-name-preserved : goal.loop-name-preserved
 loop-name-preserved c =
     let push = sym (map_push deref_pair c.loop-name.yielded (c.in-Some.name, c.in-Some.entry)) in
     record {
-      text = text_more c.args.form (line_of (header c.args.form)) c.loop-name.out.items c.put_entry.new.out.items (map deref_pair c.loop-name.yielded) (c.in-Some.name.now, c.in-Some.entry.now) c.loop-name.invariant.text c.in_ok-put_entry.ensures.text
+      text = text_more c.args.form (line_of (header c.args.form)) c.loop-name.out.items c.put_entry.new.out.items
+          (map deref_pair c.loop-name.yielded) (c.in-Some.name.now, c.in-Some.entry.now) c.loop-name.invariant.text
+          c.in_ok-put_entry.ensures.text
           ∙ ap (λ es. line_of (header c.args.form) ++ flat_map (entry_text c.args.form) es) push;
       numbers = subst (All (λ (n : Named). HasI32 n.1)) push
           (All-push (λ (n : Named). HasI32 n.1) (map deref_pair c.loop-name.yielded) (c.in-Some.name.now, c.in-Some.entry.now) c.loop-name.invariant.numbers c.in_ok-put_entry.ensures.numbers);
@@ -31,5 +33,7 @@ returns c =
     let numbers : All (λ (n : Named). HasI32 n.1) c.args.entries.now.entries = subst (All (λ (n : Named). HasI32 n.1)) e c.loop-name.invariant.numbers in
     record {
       canonical = text;
-      spells = λ can. subst (λ bytes. Spells bytes c.args.entries.now.entries) (sym text) (c.written_is_spelled.ensures c.args.form c.args.entries.now.entries (have_spelling [] c.args.entries.now.entries c.iter-name-items.ensures.unique can numbers));
+      spells = λ can. subst (λ bytes. Spells bytes c.args.entries.now.entries) (sym text)
+          (c.written_is_spelled.ensures c.args.form c.args.entries.now.entries
+          (have_spelling [] c.args.entries.now.entries c.iter-name-items.ensures.unique can numbers));
     }

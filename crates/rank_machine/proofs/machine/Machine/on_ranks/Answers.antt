@@ -57,7 +57,9 @@ returns-clause-ran g c =
     let memories : lists ms ≡ st.memories = ap (λ (s : State KernelFault). s.memories) c.self.view_is in
     let partials : lists ps ≡ st.partials = ap (λ (s : State KernelFault). s.partials) c.self.view_is in
     let variables : vs ≡ st.variables = c.deref.ensures.value ∙ ap (λ (s : State KernelFault). s.variables) c.self.view_is in
-    let viewed : State KernelFault = record { memories = lists ms; variables = inside.variables.items; partials = lists ps; frames = inside.frames; mail = inside.mail; fault = stop_in inside.fault; output = inside.output.items } in
+    let viewed : State KernelFault = record
+        { memories = lists ms; variables = inside.variables.items; partials = lists ps; frames = inside.frames; mail = inside.mail; fault =
+        stop_in inside.fault; output = inside.output.items } in
     let cells : lists ((with_items inside.memories c.run_lent-kept.new.memories).items) ≡ map (λ (s : Share KernelFault). s.cells) news =
     ap lists (refilled inside.memories c.run_lent-kept.new.memories (c.run_lent-kept.auto.memories ∙ ap length c.deref_mut.ensures.value) ∙ ran.memories) ∙ same_rows ys in
     let amounts : lists ((with_items inside.partials c.run_lent-kept.new.partials).items) ≡ map (λ (s : Share KernelFault). s.partials) news =
@@ -65,7 +67,9 @@ returns-clause-ran g c =
       news,
       length-map ys share_in ∙ made_many x k vs ls ms ps xs st memories partials variables c.requires.ranks c.requires.sized ys made,
       ran_all x k vs ls ms ps xs st memories partials variables c.requires.ranks c.requires.sized ys made c.requires.constants,
-      subst (λ (s : State KernelFault). of_parts viewed (lists ((with_items inside.memories c.run_lent-kept.new.memories).items)) (lists ((with_items inside.partials c.run_lent-kept.new.partials).items)) (stop_in c.run_lent-kept.result) ≡ with_shares news s) c.self.view_is
+      subst (λ (s : State KernelFault). of_parts viewed (lists ((with_items inside.memories c.run_lent-kept.new.memories).items))
+          (lists ((with_items inside.partials c.run_lent-kept.new.partials).items)) (stop_in c.run_lent-kept.result) ≡ with_shares news s)
+          c.self.view_is
           (ap₂ (λ a b. of_parts viewed a b (stop_in c.run_lent-kept.result)) cells amounts
           ∙ ap (of_parts viewed (map (λ (s : Share KernelFault). s.cells) news) (map (λ (s : Share KernelFault). s.partials) news)) ran.fault_is),
     )
@@ -116,7 +120,9 @@ invariant_of-self g c =
     let variables : vs ≡ st.variables = c.deref.ensures.value ∙ ap (λ (s : State KernelFault). s.variables) c.self.view_is in
     let stride : inside.frames.stride ≡ (tables_in x).stride = ap (λ (s : State KernelFault). s.frames.stride) c.self.view_is ∙ c.requires.sized.stride in
     record {
-      spare = subst (All (HasSpare inside.frames.stride)) (sym (refilled inside.memories c.run_lent-kept.new.memories (c.run_lent-kept.auto.memories ∙ ap length c.deref_mut.ensures.value) ∙ ran.memories))
+      spare = subst (All (HasSpare inside.frames.stride))
+          (sym (refilled inside.memories c.run_lent-kept.new.memories (c.run_lent-kept.auto.memories ∙ ap length c.deref_mut.ensures.value)
+          ∙ ran.memories))
           (spare_all x k vs ls ms ps xs st memories partials variables c.requires.ranks c.requires.sized ys made inside.frames.stride stride);
       window_fits = c.self.invariant.window_fits;
     }

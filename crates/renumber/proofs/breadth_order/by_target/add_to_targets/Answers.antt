@@ -9,7 +9,9 @@ use Rattle.renumber.proofs.breadth_order.Having.{rowed}
 use Rattle.renumber.proofs.breadth_order.by_target.add_to_targets.Goals as goal
 
 -- the row of a target has room for one more
-room_left : (g : MeshValue) (m e n t v room : ℕ) (row initial : List ℕ) → n < map_dim g m → t ≡ target g m e n → row ≡ initial ++ replicate (count_below n (λ i. nat_eq (target g m e i) t)) v → length initial + times g m e t ≤ room → length row < room
+room_left : (g : MeshValue) (m e n t v room : ℕ) (row initial : List ℕ) → n < map_dim g m → t ≡ target g m e n
+    → row ≡ initial ++ replicate (count_below n (λ i. nat_eq (target g m e i) t)) v → length initial + times g m e t ≤ room
+    → length row < room
 unfolding times
 room_left g m e n t v room row initial l q r h =
     let p = λ (i : ℕ). nat_eq (target g m e i) t in
@@ -31,7 +33,9 @@ push-requires-clause-room c =
     let lt : t < length c.args.filling.now.rows = omega (arith, c.target-target.ensures.within, c.requires.rows) in
     let ld : c.loop-place.place < map_dim g m = omega (arith, c.loop-place-test.true, ap (λ z. z.2) c.map_ends-dim.ensures) in
     let r : get_or c.loop-place.filling.room t 0 ≡ get_or c.args.filling.now.room t 0 = ap (λ (z : List ℕ). get_or z t 0) inv.room in
-    rw r (room_left g m c.args.element c.loop-place.place t c.args.element (get_or c.args.filling.now.room t 0) (get_or c.loop-place.filling.rows t []) (get_or c.args.filling.now.rows t []) ld c.target-target.ensures.value (inv.rows t lt) (c.requires.room t lt))
+    rw r (room_left g m c.args.element c.loop-place.place t c.args.element (get_or c.args.filling.now.room t 0)
+        (get_or c.loop-place.filling.rows t []) (get_or c.args.filling.now.rows t []) ld c.target-target.ensures.value (inv.rows t lt)
+        (c.requires.room t lt))
 
 pub loop-place-preserved : goal.loop-place-preserved
 loop-place-preserved c =
@@ -42,7 +46,8 @@ loop-place-preserved c =
     rw c.push.ensures (record {
       count = length-set rows t (get_or rows t [] ++ c.args.element ∷ []) ∙ inv.count;
       room = inv.room;
-      rows = λ x l. rowed rows c.args.filling.now.rows t t c.args.element x c.loop-place.place (λ i. target c.args.mesh.now c.args.map c.args.element i) lt refl c.target-target.ensures.value inv.rows l;
+      rows = λ x l. rowed rows c.args.filling.now.rows t t c.args.element x c.loop-place.place
+          (λ i. target c.args.mesh.now c.args.map c.args.element i) lt refl c.target-target.ensures.value inv.rows l;
     })
 
 pub returns-clause-rows : goal.returns-clause-rows

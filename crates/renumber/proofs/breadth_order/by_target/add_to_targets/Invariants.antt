@@ -7,5 +7,6 @@ abbrev pub invariant-loop-place : goal.invariant-loop-place
 invariant-loop-place l = record {
   count : length l.filling.rows ≡ length l.initial.filling.rows;
   room : l.filling.room ≡ l.initial.filling.room;
-  rows : (x : ℕ) → x < length l.initial.filling.rows → get_or l.filling.rows x [] ≡ get_or l.initial.filling.rows x [] ++ replicate (count_below l.place (λ i. nat_eq (target l.mesh l.map l.element i) x)) l.element;
+  rows : (x : ℕ) → x < length l.initial.filling.rows → get_or l.filling.rows x [] ≡ get_or l.initial.filling.rows x [] ++ replicate
+      (count_below l.place (λ i. nat_eq (target l.mesh l.map l.element i) x)) l.element;
 }

@@ -12,7 +12,8 @@ use Rattle.renumber.proofs.breadth_order.Having.{haver_at, haver_has}
 use Rattle.renumber.proofs.breadth_order.neighbours.unseen_neighbours.Goals as goal
 
 -- an element that one of those that have x as a target has too is x's neighbour
-is_near : (g : MeshValue) (m x y k : ℕ) (having : List ℕ) → having ≡ havers g m (set_size g (map_from g m)) x → k < length having → has_target g m (get_or having k 0) y ≡ true → y ≢ x → are_neighbours g m x y ≡ true
+is_near : (g : MeshValue) (m x y k : ℕ) (having : List ℕ) → having ≡ havers g m (set_size g (map_from g m)) x → k < length having
+    → has_target g m (get_or having k 0) y ≡ true → y ≢ x → are_neighbours g m x y ≡ true
 unfolding are_neighbours
 is_near g m x y k having e l t d =
     let n : ℕ = set_size g (map_from g m) in
@@ -24,7 +25,8 @@ is_near g m x y k having e l t d =
     (ap (λ z. not z) (ne_eqb x y (λ s. d (sym s))))
 
 -- x's neighbour is a target of one of those that have x as a target
-has_near : (g : MeshValue) (m x y : ℕ) (having : List ℕ) → having ≡ havers g m (set_size g (map_from g m)) x → are_neighbours g m x y ≡ true → (k : ℕ) × (k < length having) × (has_target g m (get_or having k 0) y ≡ true) × (y ≢ x)
+has_near : (g : MeshValue) (m x y : ℕ) (having : List ℕ) → having ≡ havers g m (set_size g (map_from g m)) x → are_neighbours g m x y ≡ true
+    → (k : ℕ) × (k < length having) × (has_target g m (get_or having k 0) y ≡ true) × (y ≢ x)
 unfolding are_neighbours
 has_near g m x y having e t =
     let n : ℕ = set_size g (map_from g m) in
@@ -80,7 +82,9 @@ returns c =
     let new = c.sort_unstable_by_key.new.self.items in
     let inv = c.loop-having.invariant in
     let row : having ≡ havers g m (set_size g (map_from g m)) x = c.row-having-items.ensures ∙ c.requires.by.row x c.requires.element in
-    let all : All (λ y. are_neighbours g m x y ≡ true) new = All-permutation (λ y. are_neighbours g m x y ≡ true) old new c.sort_unstable_by_key.ensures.permutation (λ k d l. inv.near (get_or old k d) (k, l, get_or_default old k (get_or old k d) d l)) in
+    let all : All (λ y. are_neighbours g m x y ≡ true) new =
+        All-permutation (λ y. are_neighbours g m x y ≡ true) old new c.sort_unstable_by_key.ensures.permutation
+        (λ k d l. inv.near (get_or old k d) (k, l, get_or_default old k (get_or old k d) d l)) in
     let sorted = IsNonDecreasingBy-from_sort_by_key (keyed c.args.keys.now) new c.sort_unstable_by_key.ensures.sorted (λ a r q k. search rules) in
     record {
       near = λ k l. all k 0 l;

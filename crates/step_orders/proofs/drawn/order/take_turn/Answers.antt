@@ -22,7 +22,8 @@ overflow_add-item g c =
     known o c.args.heads.now tails c.args.sent.now (length c.args.found.now) c.args.number.now c.args.join.now c.drawn_number-drawn.result c.items.result c.next_turn.result
     c.requires.kept c.drawn_number-drawn.ensures c.items.ensures (c.next_turn.ensures.turn tails)
     ∙ ap (λ z. to_turn c.args.join.now z) c.in-Join.is in
-    let lt : c.args.join.now < o.items = join_planned o (c.accepted_lists_have_all_steps.ensures o) c.args.heads.now tails c.args.sent.now (length c.args.found.now) c.args.number.now c.args.join.now c.requires.kept e in
+    let lt : c.args.join.now < o.items = join_planned o (c.accepted_lists_have_all_steps.ensures o) c.args.heads.now tails c.args.sent.now
+        (length c.args.found.now) c.args.number.now c.args.join.now c.requires.kept e in
     omega (arith, c.items.ensures, c.items.type_inv)
 
 pub next_join-requires : goal.next_join-requires
@@ -33,7 +34,8 @@ next_join-requires g c =
     known o c.args.heads.now tails c.args.sent.now (length c.args.found.now) c.args.number.now c.args.join.now c.drawn_number-drawn.result c.items.result c.next_turn.result
     c.requires.kept c.drawn_number-drawn.ensures c.items.ensures (c.next_turn.ensures.turn tails)
     ∙ ap (λ z. to_turn c.args.join.now z) c.in-Join.is in
-    let lt : c.args.join.now < o.items = join_planned o (c.accepted_lists_have_all_steps.ensures o) c.args.heads.now tails c.args.sent.now (length c.args.found.now) c.args.number.now c.args.join.now c.requires.kept e in
+    let lt : c.args.join.now < o.items = join_planned o (c.accepted_lists_have_all_steps.ensures o) c.args.heads.now tails c.args.sent.now
+        (length c.args.found.now) c.args.number.now c.args.join.now c.requires.kept e in
     omega arith
 
 pub take_step-requires-clause-rank : goal.take_step-requires-clause-rank
@@ -44,7 +46,8 @@ take_step-requires-clause-rank g c =
     known o c.args.heads.now tails c.args.sent.now (length c.args.found.now) c.args.number.now c.args.join.now c.drawn_number-drawn.result c.items.result c.next_turn.result
     c.requires.kept c.drawn_number-drawn.ensures c.items.ensures (c.next_turn.ensures.turn tails)
     ∙ ap (λ z. to_turn c.args.join.now z) c.in-Rank.is in
-    let lt : c.in-Rank.rank < o.ranks = in_ranks o (c.accepted_lists_have_all_steps.ensures o) c.args.heads.now tails c.args.sent.now (length c.args.found.now) c.args.number.now c.args.join.now c.requires.kept c.in-Rank.rank e in
+    let lt : c.in-Rank.rank < o.ranks = in_ranks o (c.accepted_lists_have_all_steps.ensures o) c.args.heads.now tails c.args.sent.now
+        (length c.args.found.now) c.args.number.now c.args.join.now c.requires.kept c.in-Rank.rank e in
     omega (arith, c.requires.kept.head_count)
 
 pub unreachable-requires : goal.unreachable-requires
@@ -55,7 +58,8 @@ unreachable-requires g c =
     known o c.args.heads.now tails c.args.sent.now (length c.args.found.now) c.args.number.now c.args.join.now c.drawn_number-drawn.result c.items.result c.next_turn.result
     c.requires.kept c.drawn_number-drawn.ensures c.items.ensures (c.next_turn.ensures.turn tails)
     ∙ ap (λ z. to_turn c.args.join.now z) c.in-Rank.is in
-    has_head o (c.accepted_lists_have_all_steps.ensures o) c.args.heads.now tails c.args.sent.now (length c.args.found.now) c.args.number.now c.args.join.now c.requires.kept c.in-Rank.rank e (sym c.take_step.ensures.step ∙ c.in_default.is)
+    has_head o (c.accepted_lists_have_all_steps.ensures o) c.args.heads.now tails c.args.sent.now (length c.args.found.now)
+        c.args.number.now c.args.join.now c.requires.kept c.in-Rank.rank e (sym c.take_step.ensures.step ∙ c.in_default.is)
 
 pub mark_sent-requires : goal.mark_sent-requires
 mark_sent-requires g c =
@@ -66,7 +70,8 @@ mark_sent-requires g c =
     c.requires.kept c.drawn_number-drawn.ensures c.items.ensures (c.next_turn.ensures.turn tails)
     ∙ ap (λ z. to_turn c.args.join.now z) c.in-Rank.is in
     let h : get_or c.args.heads.now c.in-Rank.rank None ≡ Some c.in-Some.step = sym c.take_step.ensures.step ∙ c.in-Some.is in
-    room o (c.accepted_lists_have_all_steps.ensures o) c.args.heads.now tails c.args.sent.now (length c.args.found.now) c.args.number.now c.args.join.now c.requires.kept c.in-Rank.rank e c.in-Some.step h
+    room o (c.accepted_lists_have_all_steps.ensures o) c.args.heads.now tails c.args.sent.now (length c.args.found.now) c.args.number.now
+        c.args.join.now c.requires.kept c.in-Rank.rank e c.in-Some.step h
     c.requires.kept.table (omega (arith, c.items.ensures, c.items.type_inv))
 
 pub returns-in-Over-clause-first : goal.returns-in-Over-clause-first
@@ -88,7 +93,8 @@ returns-in-Join-clause-kept g c =
     known o c.args.heads.now tails c.args.sent.now (length c.args.found.now) c.args.number.now c.args.join.now c.drawn_number-drawn.result c.items.result c.next_turn.result
     c.requires.kept c.drawn_number-drawn.ensures c.items.ensures (c.next_turn.ensures.turn tails)
     ∙ ap (λ z. to_turn c.args.join.now z) c.in-Join.is in
-    (join_onward o (c.accepted_lists_have_all_steps.ensures o) c.args.heads.now tails c.args.sent.now (length c.args.found.now) c.args.number.now c.args.join.now c.requires.kept e (length c.next_turn.new.found) c.next_join.result
+    (join_onward o (c.accepted_lists_have_all_steps.ensures o) c.args.heads.now tails c.args.sent.now (length c.args.found.now)
+        c.args.number.now c.args.join.now c.requires.kept e (length c.next_turn.new.found) c.next_join.result
     c.next_turn.ensures.room c.next_join.ensures).0
 
 pub returns-in-Join-clause-first : goal.returns-in-Join-clause-first
@@ -99,7 +105,8 @@ returns-in-Join-clause-first g c =
     known o c.args.heads.now tails c.args.sent.now (length c.args.found.now) c.args.number.now c.args.join.now c.drawn_number-drawn.result c.items.result c.next_turn.result
     c.requires.kept c.drawn_number-drawn.ensures c.items.ensures (c.next_turn.ensures.turn tails)
     ∙ ap (λ z. to_turn c.args.join.now z) c.in-Join.is in
-    (join_onward o (c.accepted_lists_have_all_steps.ensures o) c.args.heads.now tails c.args.sent.now (length c.args.found.now) c.args.number.now c.args.join.now c.requires.kept e (length c.next_turn.new.found) c.next_join.result
+    (join_onward o (c.accepted_lists_have_all_steps.ensures o) c.args.heads.now tails c.args.sent.now (length c.args.found.now)
+        c.args.number.now c.args.join.now c.requires.kept e (length c.next_turn.new.found) c.next_join.result
     c.next_turn.ensures.room c.next_join.ensures).1
 
 pub returns-in-Some-clause-kept : goal.returns-in-Some-clause-kept
@@ -111,7 +118,8 @@ returns-in-Some-clause-kept g c =
     c.requires.kept c.drawn_number-drawn.ensures c.items.ensures (c.next_turn.ensures.turn tails)
     ∙ ap (λ z. to_turn c.args.join.now z) c.in-Rank.is in
     let h : get_or c.args.heads.now c.in-Rank.rank None ≡ Some c.in-Some.step = sym c.take_step.ensures.step ∙ c.in-Some.is in
-    step_kept o (c.accepted_lists_have_all_steps.ensures o) c.args.heads.now tails c.args.sent.now (length c.args.found.now) c.args.number.now c.args.join.now c.requires.kept c.in-Rank.rank e c.in-Some.step h
+    step_kept o (c.accepted_lists_have_all_steps.ensures o) c.args.heads.now tails c.args.sent.now (length c.args.found.now)
+        c.args.number.now c.args.join.now c.requires.kept c.in-Rank.rank e c.in-Some.step h
     c.take_step.new.heads (map g.T.Steps.left c.take_step.new.streams) c.mark_sent.new.sent (length c.next_turn.new.found) c.drawn_number-drawn.result
     c.take_step.ensures.heads
     (omega (arith, length-map c.take_step.new.streams g.T.Steps.left, length-map c.args.streams.now g.T.Steps.left, c.take_step.ensures.streams))
@@ -126,7 +134,8 @@ returns-in-Some-clause-first g c =
     c.requires.kept c.drawn_number-drawn.ensures c.items.ensures (c.next_turn.ensures.turn tails)
     ∙ ap (λ z. to_turn c.args.join.now z) c.in-Rank.is in
     let h : get_or c.args.heads.now c.in-Rank.rank None ≡ Some c.in-Some.step = sym c.take_step.ensures.step ∙ c.in-Some.is in
-    step_left o (c.accepted_lists_have_all_steps.ensures o) c.args.heads.now tails c.args.sent.now (length c.args.found.now) c.args.number.now c.args.join.now c.requires.kept c.in-Rank.rank e c.in-Some.step h
+    step_left o (c.accepted_lists_have_all_steps.ensures o) c.args.heads.now tails c.args.sent.now (length c.args.found.now)
+        c.args.number.now c.args.join.now c.requires.kept c.in-Rank.rank e c.in-Some.step h
     c.take_step.new.heads (map g.T.Steps.left c.take_step.new.streams) c.mark_sent.new.sent (length c.next_turn.new.found) c.drawn_number-drawn.result
     c.take_step.ensures.heads
     (omega (arith, length-map c.take_step.new.streams g.T.Steps.left, length-map c.args.streams.now g.T.Steps.left, c.take_step.ensures.streams))

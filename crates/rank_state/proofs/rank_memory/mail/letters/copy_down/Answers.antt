@@ -6,7 +6,8 @@ use Rattle.rank_state.specs.Spans.{cells_at}
 use Rattle.rank_state.proofs.rank_memory.Moving.{paste_front, paste_here}
 use Rattle.rank_state.proofs.rank_memory.mail.letters.copy_down.Goals as goal
 
-copied : (at n to : ℕ) (cs ds : List ℤ) → ds ≡ paste cs to (drop at cs) (at + n - at) → at + n ≤ length cs → to ≤ at → (take to ds ≡ take to cs) × (cells_at to n ds ≡ cells_at at n cs) × (drop (to + n) ds ≡ drop (to + n) cs)
+copied : (at n to : ℕ) (cs ds : List ℤ) → ds ≡ paste cs to (drop at cs) (at + n - at) → at + n ≤ length cs → to ≤ at
+    → (take to ds ≡ take to cs) × (cells_at to n ds ≡ cells_at at n cs) × (drop (to + n) ds ≡ drop (to + n) cs)
 copied at n to cs ds e h le =
     let m : at + n - at ≡ n = omega arith in
     let e' : ds ≡ paste cs to (drop at cs) n = e ∙ ap (paste cs to (drop at cs)) m in

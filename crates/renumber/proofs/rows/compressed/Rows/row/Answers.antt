@@ -13,7 +13,8 @@ within value starts items k e l =
     omega (arith, n, p, v, l)
 
 -- the row's start and end
-bounds : (starts : List ℕ) (size k a b : ℕ) → AreStarts starts size → k + 1 < length starts → a ≡ get_or starts k a → b ≡ get_or starts (k + 1) b → (a ≤ b) × (b ≤ size) × (a ≡ get_or starts k 0) × (b ≡ get_or starts (k + 1) 0)
+bounds : (starts : List ℕ) (size k a b : ℕ) → AreStarts starts size → k + 1 < length starts → a ≡ get_or starts k a
+    → b ≡ get_or starts (k + 1) b → (a ≤ b) × (b ≤ size) × (a ≡ get_or starts k 0) × (b ≡ get_or starts (k + 1) 0)
 bounds starts size k a b h l ra rb =
     let x : a ≡ get_or starts k 0 = get_or_read starts k a (omega (arith, l)) ra 0 in
     let y : b ≡ get_or starts (k + 1) 0 = get_or_read starts (k + 1) b l rb 0 in

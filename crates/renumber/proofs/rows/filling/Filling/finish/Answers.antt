@@ -3,7 +3,9 @@ use Rattle.renumber.specs.Parts.{FillingValue, parts, rooms, AreEnds}
 use Rattle.renumber.proofs.rows.Reading.{length_parts, full}
 use Rattle.renumber.proofs.rows.filling.Filling.finish.Goals as goal
 
-finished : (f : FillingValue) (starts ends items : List ℕ) → record { rows = parts starts ends items; room = rooms starts (drop 1 starts) } ≡ f → AreEnds starts ends (length items) → ((k : ℕ) → k < length f.rows → length (get_or f.rows k []) ≡ get_or f.room k 0) → parts starts (drop 1 starts) items ≡ f.rows
+finished : (f : FillingValue) (starts ends items : List ℕ)
+    → record { rows = parts starts ends items; room = rooms starts (drop 1 starts) } ≡ f → AreEnds starts ends (length items)
+    → ((k : ℕ) → k < length f.rows → length (get_or f.rows k []) ≡ get_or f.room k 0) → parts starts (drop 1 starts) items ≡ f.rows
 finished f starts ends items e h l =
     let c = h.count in
     let n = length_parts starts ends items (omega (arith, c)) in
