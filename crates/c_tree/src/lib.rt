@@ -1,4 +1,4 @@
-//! The trees of a source, for every form of the language, and, as definitions, the tokens that a tree prints.
+//! The tokens of a source; its trees, for every form of the language; and, as definitions, the tokens that a tree prints.
 #![tactic(auto)]
 
 mod declarations;

@@ -1,4 +1,4 @@
-//! What a kernel does to a store of cells, which accesses it may make, and what follows for its elements.
+//! Kernels whose names are resolved: what one does to a store of cells, which accesses it may make, and what follows for its elements.
 #![tactic(auto)]
 
 pub mod fault_order;

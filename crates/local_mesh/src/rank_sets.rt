@@ -1,7 +1,5 @@
-//! Sets of ranks below 64, and lists of the numbers that pass a test.
-//!
-//! Its definitions (`specs/Below.antt`) are tests, counts and increasing lists over the numbers below a bound: whatever
-//! is said of owners, halos and local numbers is said by these.
+//! Sets of ranks below 64, and lists of numbers, one for each rank.
+
 mod lists;
 mod rank_set;
 

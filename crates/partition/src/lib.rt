@@ -1,4 +1,4 @@
-//! Owners of the elements of a mesh by rule.
+//! Owners of the elements of a mesh, by rule or from a text, and the distribution that they give.
 #![tactic(auto)]
 
 ghost use Rattle.std.specs.Prelude.{◌≡◌, ℕ, ◌<◌, ◌≤◌, IfOk, length, slice_index, nat_eq};
