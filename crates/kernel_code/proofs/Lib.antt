@@ -9,3 +9,4 @@ mod Safe
 mod Steps
 mod Values
 mod Within
+pub mod Public
