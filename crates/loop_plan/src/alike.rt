@@ -11,7 +11,7 @@ use crate::exchange::args_of;
 use crate::needs::is_scattering;
 use crate::sites::reducing_args;
 use crate::types::PlanKind;
-use bound_program::{Bound, Via};
+use bound_program::Bound;
 use colouring::IncArg;
 use op_num::OutOfMemory;
 use std::alloc::Global;
@@ -62,24 +62,6 @@ pub fn plan_key(
     })
 }
 
-// Whether both lead by no map, or by one map and one index.
-fn is_same_via(some: Option<Via>, other: Option<Via>) -> bool
-    ensures { result ≡ true → some ≡ other }
-{
-    match (some, other) {
-        (None, None) => true,
-        (Some(some), Some(other)) => some.map == other.map && some.index == other.index,
-        _ => false,
-    }
-}
-
-// Whether both merge amounts into one dat, in one way.
-fn is_same_arg(some: IncArg, other: IncArg) -> bool
-    ensures { result ≡ true → some ≡ other }
-{
-    some.dat == other.dat && is_same_via(some.via, other.via)
-}
-
 // Whether these are the same arguments in the same order.
 fn are_same_args(some: &[IncArg], others: &[IncArg]) -> bool
     ensures { result ≡ true → some.now ≡ others.now }
@@ -88,7 +70,7 @@ fn are_same_args(some: &[IncArg], others: &[IncArg]) -> bool
         return false;
     }
     for k in 0..some.len() {
-        if !is_same_arg(some[k], others[k]) {
+        if some[k] != others[k] {
             return false;
         }
     }
