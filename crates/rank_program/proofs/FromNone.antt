@@ -11,7 +11,7 @@ use Rattle.rank_state.specs.Machine.{noted}
 use Rattle.rank_state.specs.Shows.{Tables}
 use Rattle.rank_program.specs.AloneRuns.{Share, Reaches}
 use Rattle.rank_program.specs.FromNone.{kept_both, OfElement, with_fault, FaultsComeTogether}
-use Rattle.rank_program.proofs.LeastOfThree.{At, least_of_three}
+use Rattle.schedule_model.proofs.Public.{At, least_of_three}
 
 at_of : {F : Type 0} (x : Stop F) → (e : ℕ) × (x.element ≡ Some e) → At x
 at_of x h = record { element = h.0; is = h.1 }

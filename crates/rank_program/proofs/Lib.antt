@@ -16,7 +16,6 @@ mod Windowed
 mod JobTargets
 mod LocalLoops
 mod LocalElements
-mod LeastOfThree
 mod AloneRuns
 mod FromNone
 mod JobWindows

@@ -13,5 +13,6 @@ mod Elements
 mod Stops
 mod Joins
 mod Whole
+mod LeastOfThree
 mod Kept
 pub mod Public

@@ -42,3 +42,6 @@ pub use Rattle.schedule_model.proofs.flat_machine.Rows.{map_same, updated_at, up
 
 -- What the touch of a cell says of the arguments that reach it.
 pub use Rattle.schedule_model.proofs.schedule_laws.Touches.{read_by, modified_by}
+
+-- Of three faults of elements the least, and the first of equals, however they are put together.
+pub use Rattle.schedule_model.proofs.LeastOfThree.{At, least_of_three}

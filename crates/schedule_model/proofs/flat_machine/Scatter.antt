@@ -1,5 +1,5 @@
 -- Writing values cell by cell is looking them up by index.
-use Rattle.std.proofs.Common.{◌≡◌, ℕ, ℤ, pos, ◌<◌, Bool, true, false, cond, refl, sym, ap, subst, ◌∙◌, ⊎_elim, List, [], ◌∷◌, length, get_or, set, length-set, get_or-set_same, get_or-set_other}
+use Rattle.std.proofs.Common.{◌≡◌, ℕ, ℤ, pos, ◌<◌, Bool, true, false, cond, refl, sym, ap, subst, ◌∙◌, ⊎_elim, List, [], ◌∷◌, length, get_or, set, get_or-set_same, get_or-set_other}
 use Rattle.std.proofs.lemmas.Bool.{cases_Bool, false≢true, or_parts, or_left, or_right, cond-true, cond-false}
 use Rattle.std.proofs.lemmas.List.{ext_get_or}
 use Rattle.schedule_model.specs.Cells.{Cell, Data, Variable, DatCell, same_cell}
