@@ -1,5 +1,5 @@
 -- Sets that agree below the dims lead the walk to the same.
-use Rattle.std.proofs.Common.{◌≡◌, ℕ, zero, suc, ℤ, pos, negsuc, ◌+◌, ◌-◌, ◌<◌, List, [], ◌∷◌, Option, Some, None, Bool, true, false, ◌&&◌, ◌||◌, refl, ap, ◌∙◌}
+use Rattle.std.proofs.Common.{◌≡◌, ℕ, zero, suc, ℤ, pos, negsuc, ◌-◌, List, Option, Some, None, Bool, true, false, ◌&&◌, ◌||◌, refl, ap, ◌∙◌}
 use Rattle.std.specs.Prelude.{nat_lt, nat_eq}
 use Rattle.std.proofs.lemmas.Bool.{ltb-true}
 use Rattle.c_tree.specs.declared.expressions.MinMax.{MinMax}
@@ -26,10 +26,10 @@ module _ (modes : List Mode) where
       let acc = (mode_at modes (argument_of e)).access in
       let dim = (mode_at modes (argument_of e)).dim in
       ap (λ u. with_rule d acc dim e MinMaxForm
-          (with_rule d acc dim e LiteralIndexOut
-          (with_rule d acc dim e WriteIndexNotStatic
-          (noted_if (is_op_write acc && (is_read acc e && u)) ReadsUnwritten (place_of e)
-          (with_rule d acc dim e IncNotSum (with_rule d acc dim e ReadsInc (with_rule d acc dim e WritesRead found)))))))
+      (with_rule d acc dim e LiteralIndexOut
+      (with_rule d acc dim e WriteIndexNotStatic
+      (noted_if (is_op_write acc && (is_read acc e && u)) ReadsUnwritten (place_of e)
+      (with_rule d acc dim e IncNotSum (with_rule d acc dim e ReadsInc (with_rule d acc dim e WritesRead found)))))))
       (unwritten_same c d h (argument_of e) (index_of e))
 
   module _ (c d : Covered) (h : Agree modes c d) (cs : Counters) where
@@ -44,7 +44,7 @@ module _ (modes : List Mode) where
     expr_same (Binary' op p a q b at) found = expr_same b (expr_found modes a cs c found) ∙ ap (expr_found modes b cs d) (expr_same a found)
     expr_same (Choice' p x q a r b) found =
         expr_same b (expr_found modes a cs c (expr_found modes x cs c found))
-            ∙ ap (expr_found modes b cs d) (expr_same a (expr_found modes x cs c found) ∙ ap (expr_found modes a cs d) (expr_same x found))
+        ∙ ap (expr_found modes b cs d) (expr_same a (expr_found modes x cs c found) ∙ ap (expr_found modes a cs d) (expr_same x found))
     expr_same (Paren' p a) found = expr_same a found
     expr_same (Extremum' which p a q b) found = expr_same b (expr_found modes a cs c found) ∙ ap (expr_found modes b cs d) (expr_same a found)
     expr_same (Absolute' p a) found = expr_same a found
@@ -106,12 +106,12 @@ module _ (modes : List Mode) where
         let own = own_side a form ix op e in
         let end = target_event own op a (static ix cs) at in
         event_same c d h end (right_found modes own e cs c (expr_found modes ix cs c found))
-            ∙ ap (event_found modes d end) (right_same c d h cs own e (expr_found modes ix cs c found)
-            ∙ ap (right_found modes own e cs d) (expr_same c d h cs ix found))
+        ∙ ap (event_found modes d end) (right_same c d h cs own e (expr_found modes ix cs c found)
+        ∙ ap (right_found modes own e cs d) (expr_same c d h cs ix found))
     stmt_same (If' e p a q b) cs c d h found =
         stmt_same b cs c d h (stmt_found modes a cs c (expr_found modes e cs c found))
-            ∙ ap (stmt_found modes b cs d) (stmt_same a cs c d h (expr_found modes e cs c found)
-            ∙ ap (stmt_found modes a cs d) (expr_same c d h cs e found))
+        ∙ ap (stmt_found modes b cs d) (stmt_same a cs c d h (expr_found modes e cs c found)
+        ∙ ap (stmt_found modes a cs d) (expr_same c d h cs e found))
     stmt_same (For' k first past p body) cs c d h found =
         turns_same (λ i x g. stmt_found modes body (with_counter cs k (pos i)) x g) (λ i x. covered_after body (with_counter cs k (pos i)) x)
         (λ i x y g. covered_agree body (with_counter cs k (pos i)) x y g) (λ i x y g f. stmt_same body (with_counter cs k (pos i)) x y g f) first (past - first) c d h found
@@ -120,4 +120,4 @@ module _ (modes : List Mode) where
     row_same end_of-RStmt cs c d h found = refl
     row_same (more_of-RStmt first rest) cs c d h found =
         row_same rest cs (covered_after first cs c) (covered_after first cs d) (covered_agree first cs c d h)
-            (stmt_found modes first cs c found) ∙ ap (row_found modes rest cs (covered_after first cs d)) (stmt_same first cs c d h found)
+        (stmt_found modes first cs c found) ∙ ap (row_found modes rest cs (covered_after first cs d)) (stmt_same first cs c d h found)

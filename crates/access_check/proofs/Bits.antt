@@ -28,9 +28,9 @@ pub with_bit_of : (words : List ℕ) (a r b k : ℕ) → a < length words → r 
     ((eqb a b && eqb r k) || eqb (bit_at (get_or words b 0) k) 1)
 with_bit_of words a r b k l m = ⊎_elim
     (λ (e : a ≡ b). rw (eq-eqb a b e)
-        (ap (λ (z : ℕ). eqb (bit_at z k) 1) (ap (λ j. get_or (set words a (bit_or (get_or words a 0) (1 * 2 ^ r % 2 ^ 64))) j 0) (sym e)
-        ∙ get_or-set_same words a (bit_or (get_or words a 0) (1 * 2 ^ r % 2 ^ 64)) 0 l) ∙ with_bit (get_or words a 0) r k m
-        ∙ ap (λ j. eqb r k || eqb (bit_at (get_or words j 0) k) 1) e))
+    (ap (λ (z : ℕ). eqb (bit_at z k) 1) (ap (λ j. get_or (set words a (bit_or (get_or words a 0) (1 * 2 ^ r % 2 ^ 64))) j 0) (sym e)
+    ∙ get_or-set_same words a (bit_or (get_or words a 0) (1 * 2 ^ r % 2 ^ 64)) 0 l) ∙ with_bit (get_or words a 0) r k m
+    ∙ ap (λ j. eqb r k || eqb (bit_at (get_or words j 0) k) 1) e))
     (λ (e : a ≡ b → ⊥). rw (ne_eqb a b e) (ap (λ (z : ℕ). eqb (bit_at z k) 1) (get_or-set_other words a b (bit_or (get_or words a 0) (1 * 2 ^ r % 2 ^ 64)) 0 (λ q. e (sym q)))))
     (cases_eq a b)
 
@@ -59,7 +59,7 @@ common_step ws ls rs a lt e h b l i = ⊎_elim
     let q : a ≡ b = omega arith in
     subst (λ c. eqb (bit_at (get_or (set ws a (bit_and (get_or ws a 0) (get_or rs a 0))) c 0) i) 1 ≡ (eqb (bit_at (get_or ls c 0) i) 1 && eqb (bit_at (get_or rs c 0) i) 1)) q
     (ap (λ (z : ℕ). eqb (bit_at z i) 1) (get_or-set_same ws a (bit_and (get_or ws a 0) (get_or rs a 0)) 0 lt)
-        ∙ both_bit (get_or ws a 0) (get_or rs a 0) i ∙ ap (λ z. eqb (bit_at z i) 1 && eqb (bit_at (get_or rs a 0) i) 1) e))
+    ∙ both_bit (get_or ws a 0) (get_or rs a 0) i ∙ ap (λ z. eqb (bit_at z i) 1 && eqb (bit_at (get_or rs a 0) i) 1) e))
     (cases_lt b a)
 
 pub rest_step : (ws ls : List ℕ) (a v : ℕ) → ((b : ℕ) → a ≤ b → get_or ws b 0 ≡ get_or ls b 0) → (b : ℕ) → a + 1 ≤ b → get_or (set ws a v) b 0 ≡ get_or ls b 0
@@ -71,6 +71,6 @@ common_end ws ls rs a le h k b i = ⊎_elim
     (λ (m : a ≤ b).
     let z : get_or ls b 0 ≡ 0 = get_or-eq_default ls 0 (omega arith) in
     ap (λ (x : ℕ). eqb (bit_at x i) 1) (k b m ∙ z) ∙ zero_bit i
-        ∙ sym (ap (λ x. eqb (bit_at x i) 1 && eqb (bit_at (get_or rs b 0) i) 1) z
-        ∙ ap (λ c. c && eqb (bit_at (get_or rs b 0) i) 1) (zero_bit i)))
+    ∙ sym (ap (λ x. eqb (bit_at x i) 1 && eqb (bit_at (get_or rs b 0) i) 1) z
+    ∙ ap (λ c. c && eqb (bit_at (get_or rs b 0) i) 1) (zero_bit i)))
     (cases_lt b a)

@@ -30,17 +30,17 @@ module _ (modes : List Mode) (cs : Counters) (c : Covered) (F : Found → Found)
       let dim = (mode_at modes (argument_of e)).dim in
       let p = place_of e in
       swap_then F (λ x. with_rule c acc dim e LiteralIndexOut
-          (with_rule c acc dim e WriteIndexNotStatic
-          (with_rule c acc dim e ReadsUnwritten
-          (with_rule c acc dim e IncNotSum (with_rule c acc dim e ReadsInc (with_rule c acc dim e WritesRead x))))))
-          (with_rule c acc dim e MinMaxForm)
+      (with_rule c acc dim e WriteIndexNotStatic
+      (with_rule c acc dim e ReadsUnwritten
+      (with_rule c acc dim e IncNotSum (with_rule c acc dim e ReadsInc (with_rule c acc dim e WritesRead x))))))
+      (with_rule c acc dim e MinMaxForm)
       (swap_then F (λ x. with_rule c acc dim e WriteIndexNotStatic
-          (with_rule c acc dim e ReadsUnwritten
-          (with_rule c acc dim e IncNotSum (with_rule c acc dim e ReadsInc (with_rule c acc dim e WritesRead x)))))
-          (with_rule c acc dim e LiteralIndexOut)
+      (with_rule c acc dim e ReadsUnwritten
+      (with_rule c acc dim e IncNotSum (with_rule c acc dim e ReadsInc (with_rule c acc dim e WritesRead x)))))
+      (with_rule c acc dim e LiteralIndexOut)
       (swap_then F (λ x. with_rule c acc dim e ReadsUnwritten
-          (with_rule c acc dim e IncNotSum (with_rule c acc dim e ReadsInc (with_rule c acc dim e WritesRead x))))
-          (with_rule c acc dim e WriteIndexNotStatic)
+      (with_rule c acc dim e IncNotSum (with_rule c acc dim e ReadsInc (with_rule c acc dim e WritesRead x))))
+      (with_rule c acc dim e WriteIndexNotStatic)
       (swap_then F (λ x. with_rule c acc dim e IncNotSum (with_rule c acc dim e ReadsInc (with_rule c acc dim e WritesRead x))) (with_rule c acc dim e ReadsUnwritten)
       (swap_then F (λ x. with_rule c acc dim e ReadsInc (with_rule c acc dim e WritesRead x)) (with_rule c acc dim e IncNotSum)
       (swap_then F (with_rule c acc dim e WritesRead) (with_rule c acc dim e ReadsInc)
@@ -60,7 +60,7 @@ module _ (modes : List Mode) (cs : Counters) (c : Covered) (F : Found → Found)
   swap_expr (Binary' op p a q b at) = swap_then F (expr_found modes a cs c) (expr_found modes b cs c) (swap_expr a) (swap_expr b)
   swap_expr (Choice' p x q a r b) =
       swap_then F (λ y. expr_found modes a cs c (expr_found modes x cs c y)) (expr_found modes b cs c)
-          (swap_then F (expr_found modes x cs c) (expr_found modes a cs c) (swap_expr x) (swap_expr a)) (swap_expr b)
+      (swap_then F (expr_found modes x cs c) (expr_found modes a cs c) (swap_expr x) (swap_expr a)) (swap_expr b)
   swap_expr (Paren' p a) = swap_expr a
   swap_expr (Extremum' which p a q b) = swap_then F (expr_found modes a cs c) (expr_found modes b cs c) (swap_expr a) (swap_expr b)
   swap_expr (Absolute' p a) = swap_expr a

@@ -1,5 +1,5 @@
 -- The end of the walk: components that some path leaves unwritten.
-use Rattle.std.proofs.Common.{◌≡◌, ℕ, zero, suc, ◌+◌, ◌-◌, ◌<◌, ◌≤◌, List, Option, None, Bool, true, false, ◌&&◌, ◌||◌, refl, sym, ap, ◌∙◌, ◌⊎◌, ⊎_elim, arith, add-one}
+use Rattle.std.proofs.Common.{◌≡◌, ℕ, zero, suc, ◌+◌, ◌-◌, ◌<◌, ◌≤◌, List, Option, None, Bool, true, false, ◌&&◌, ◌||◌, refl, sym, ap, ◌∙◌, ⊎_elim, arith, add-one}
 use Rattle.std.proofs.lemmas.Bool.{cases_lt}
 use Rattle.std.proofs.Math.Path.{fun_ext}
 use Rattle.c_tree.specs.declared.lexer.tokens.Pos.{Pos}

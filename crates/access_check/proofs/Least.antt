@@ -1,5 +1,5 @@
 -- The breach that counts doesn't turn on the order in which breaches are found.
-use Rattle.std.proofs.Common.{◌≡◌, ℕ, ◌<◌, ◌≤◌, Option, Some, None, Bool, true, cond, refl, sym, ap, ◌∙◌, subst, ◌⊎◌, inl, inr, ⊎_elim, arith}
+use Rattle.std.proofs.Common.{◌≡◌, ℕ, Option, Some, None, Bool, true, cond, refl, sym, ap, ◌∙◌, subst, inl, inr, ⊎_elim, arith}
 use Rattle.std.specs.Prelude.{nat_eq}
 use Rattle.c_tree.specs.declared.lexer.tokens.Pos.{Pos}
 use Rattle.c_tree.specs.Order.{IsEarlier}
@@ -112,5 +112,5 @@ module _ (b : Bool) (r : Rule) (p : Pos) (c : Bool) (s : Rule) (q : Pos) (x : Fo
   note_swap =
       first_same (noted_if b r p (noted_if c s q x)) (noted_if c s q (noted_if b r p x)) One one_first
       (first_iff (noted_if c s q (noted_if b r p x)) Other One
-          (λ w v k. ⊎_elim (λ m. ⊎_elim (λ n. inl (inl n)) (λ n. inr n) m) (λ m. inl (inr m)) k)
-          (λ w v k. ⊎_elim (λ m. ⊎_elim (λ n. inl (inl n)) (λ n. inr n) m) (λ m. inl (inr m)) k) other_first)
+      (λ w v k. ⊎_elim (λ m. ⊎_elim (λ n. inl (inl n)) (λ n. inr n) m) (λ m. inl (inr m)) k)
+      (λ w v k. ⊎_elim (λ m. ⊎_elim (λ n. inl (inl n)) (λ n. inr n) m) (λ m. inl (inr m)) k) other_first)

@@ -1,6 +1,6 @@
 -- One turn of a for is enough, where no static index in its body names its counter: it finds all that all turns find, and covers all that
 -- they cover.
-use Rattle.std.proofs.Common.{◌≡◌, ℕ, zero, suc, pos, ◌⊎◌, inl, inr, ◌+◌, ◌-◌, ◌<◌, ◌≤◌, Bool, false, List, refl, sym, ap, ◌∙◌, arith}
+use Rattle.std.proofs.Common.{◌≡◌, ℕ, zero, suc, pos, inl, inr, ◌-◌, ◌<◌, Bool, false, List, refl, sym, ap, ◌∙◌, arith}
 use Rattle.std.proofs.Math.Path.{fun_ext}
 use Rattle.kernel_model.specs.declared.types.statements.RStmt.{RStmt}
 use Rattle.kernel_model.specs.Obeys.{Mode, Counters, with_counter}
@@ -73,5 +73,5 @@ module _ (modes : List Mode) (body : RStmt) (cs : Counters) (k : ℕ) (is_named 
       let q = h.2 in
       let one : end - first ≡ 1 = omega (arith, q) in
       ap (λ m. turns_found modes (λ i d g. stmt_found modes body (with_counter cs k (pos i)) d g)
-          (λ i d. covered_after body (with_counter cs k (pos i)) d) first m c f) one
-          ∙ sym (one_turn_finds modes body cs k (e h.0) first past c f h.1)
+      (λ i d. covered_after body (with_counter cs k (pos i)) d) first m c f) one
+      ∙ sym (one_turn_finds modes body cs k (e h.0) first past c f h.1)

@@ -1,5 +1,5 @@
 -- What one turn of a for finds, a second turn doesn't add to, where it starts with more components covered.
-use Rattle.std.proofs.Common.{◌≡◌, ℕ, zero, suc, ℤ, pos, negsuc, ◌-◌, List, Option, Some, None, Bool, true, false, ◌&&◌, ◌||◌, refl, sym, ap, ◌∙◌}
+use Rattle.std.proofs.Common.{◌≡◌, ℕ, zero, suc, ℤ, pos, negsuc, ◌-◌, List, Option, Some, None, Bool, true, false, ◌&&◌, refl, sym, ap, ◌∙◌}
 use Rattle.std.specs.Prelude.{nat_lt}
 use Rattle.c_tree.specs.declared.lexer.tokens.Pos.{Pos}
 use Rattle.op_num.specs.Access.{Access}
@@ -119,7 +119,7 @@ module _ (modes : List Mode) where
         settled_then _ _ _ _ (settled_then _ _ _ _ (settled_expr c d h cs e) (settled_stmt a cs c d h)) (settled_stmt b cs c d h)
     settled_stmt (For' k first past p body) cs c d h =
         settled_turns (λ i x g. stmt_found modes body (with_counter cs k (pos i)) x g)
-            (λ i x. covered_after body (with_counter cs k (pos i)) x) (λ i x y g. settled_stmt body (with_counter cs k (pos i)) x y g)
+        (λ i x. covered_after body (with_counter cs k (pos i)) x) (λ i x y g. settled_stmt body (with_counter cs k (pos i)) x y g)
         (λ i x y g. within_after body (with_counter cs k (pos i)) x y g) first (past - first) c d h
 
     settled_row : {m : _} → (all : Row_of-RStmt m) (cs : Counters) (c d : Covered) → Within c d → Settled (row_found modes all cs d) (row_found modes all cs c)

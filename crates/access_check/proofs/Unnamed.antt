@@ -74,7 +74,7 @@ module _ (modes : List Mode) (k : ℕ) where
       expr_free (Unary' op p a) e f = expr_free a e f
       expr_free (Binary' op p a q b at) e f =
           expr_free b (or_right (expr_names false a k) (expr_names false b k) e) (expr_found modes a cs c f)
-              ∙ ap (expr_found modes b ds c) (expr_free a (or_left (expr_names false a k) (expr_names false b k) e) f)
+          ∙ ap (expr_found modes b ds c) (expr_free a (or_left (expr_names false a k) (expr_names false b k) e) f)
       expr_free (Choice' p x q a r b) e f =
           let n = or_right (expr_names false x k) (expr_names false a k || expr_names false b k) e in
           expr_free b (or_right (expr_names false a k) (expr_names false b k) n) (expr_found modes a cs c (expr_found modes x cs c f))
@@ -83,22 +83,22 @@ module _ (modes : List Mode) (k : ℕ) where
       expr_free (Paren' p a) e f = expr_free a e f
       expr_free (Extremum' which p a q b) e f =
           expr_free b (or_right (expr_names false a k) (expr_names false b k) e) (expr_found modes a cs c f)
-              ∙ ap (expr_found modes b ds c) (expr_free a (or_left (expr_names false a k) (expr_names false b k) e) f)
+          ∙ ap (expr_found modes b ds c) (expr_free a (or_left (expr_names false a k) (expr_names false b k) e) f)
       expr_free (Absolute' p a) e f = expr_free a e f
 
       own_free : (which : MinMax) (e : RExpr) → expr_names false e k ≡ false → (f : Found) → own_found modes which e cs c f ≡ own_found modes which e ds c f
       own_free which (Arg' b form p ix at) e f =
           ap (λ i. event_found modes c (Owns which b i at) (expr_found modes ix cs c f)) (same_static ix e)
-              ∙ ap (event_found modes c (Owns which b (static ix ds) at)) (expr_free ix (not_index ix e) f)
+          ∙ ap (event_found modes c (Owns which b (static ix ds) at)) (expr_free ix (not_index ix e) f)
       own_free which x e f = expr_free x e f
 
       right_free : (own : Own) (e : RExpr) → expr_names false e k ≡ false → (f : Found) → right_found modes own e cs c f ≡ right_found modes own e ds c f
       right_free (First which) (Extremum' other p x q y) e f =
           expr_free y (or_right (expr_names false x k) (expr_names false y k) e) (own_found modes which x cs c f)
-              ∙ ap (expr_found modes y ds c) (own_free which x (or_left (expr_names false x k) (expr_names false y k) e) f)
+          ∙ ap (expr_found modes y ds c) (own_free which x (or_left (expr_names false x k) (expr_names false y k) e) f)
       right_free (Second which) (Extremum' other p x q y) e f =
           own_free which y (or_right (expr_names false x k) (expr_names false y k) e) (expr_found modes x cs c f)
-              ∙ ap (own_found modes which y ds c) (expr_free x (or_left (expr_names false x k) (expr_names false y k) e) f)
+          ∙ ap (own_found modes which y ds c) (expr_free x (or_left (expr_names false x k) (expr_names false y k) e) f)
       right_free own x e f = expr_free x e f
 
   mutual
@@ -128,7 +128,7 @@ module _ (modes : List Mode) (k : ℕ) where
     found_free (SetScalar j op opat x) cs ds h e c f = expr_free cs ds h c x e f
     found_free (SetLocal from count form ix at op opat x) cs ds h e c f =
         expr_free cs ds h c x (or_right (expr_names false ix k) (expr_names false x k) e) (expr_found modes ix cs c f)
-            ∙ ap (expr_found modes x ds c) (expr_free cs ds h c ix (or_left (expr_names false ix k) (expr_names false x k) e) f)
+        ∙ ap (expr_found modes x ds c) (expr_free cs ds h c ix (or_left (expr_names false ix k) (expr_names false x k) e) f)
     found_free (SetArg a form ix at op opat x) cs ds h e c f =
         let own = own_side a form ix op x in
         let named = or_left (expr_names true ix k) (expr_names false x k) e in

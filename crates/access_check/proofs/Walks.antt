@@ -1,5 +1,5 @@
 -- Steps of the walk: statements of a block, and turns of a for.
-use Rattle.std.proofs.Common.{◌≡◌, ◌≢◌, ℕ, zero, suc, ℤ, pos, ◌+◌, ◌-◌, ◌<◌, ◌≤◌, List, [], ◌∷◌, length, get_or, set, drop, drop-cons, Option, Some, None, Bool, true, false, cond, ◌||◌, refl, sym, ap, ◌∙◌, subst, arith, Vec, Global, add-one, get_or-set_other, get_or-set_same}
+use Rattle.std.proofs.Common.{◌≡◌, ℕ, zero, suc, ℤ, pos, ◌+◌, ◌-◌, ◌<◌, ◌≤◌, List, [], ◌∷◌, length, get_or, set, drop, drop-cons, Option, Some, None, Bool, true, false, cond, ◌||◌, refl, sym, ap, ◌∙◌, subst, arith, Vec, Global, add-one, get_or-set_other, get_or-set_same}
 use Rattle.std.specs.Prelude.{nat_eq}
 use Rattle.std.proofs.lemmas.Bool.{eqb-true, eqb-false}
 use Rattle.std.proofs.Math.Path.{fun_ext}
@@ -64,7 +64,7 @@ pub list_same : (modes : List Mode) (items : List RStmt) (cs : Counters) (c d : 
 list_same modes [] cs c d h found = refl
 list_same modes (st ∷ rest) cs c d h found =
     list_same modes rest cs (covered_after st cs c) (covered_after st cs d) (covered_agree modes st cs c d h)
-        (stmt_found modes st cs c found) ∙ ap (list_found modes rest cs (covered_after st cs d)) (stmt_same modes st cs c d h found)
+    (stmt_found modes st cs c found) ∙ ap (list_found modes rest cs (covered_after st cs d)) (stmt_same modes st cs c d h found)
 
 pub list_agree : (modes : List Mode) (items : List RStmt) (cs : Counters) (c d : Covered) → Agree modes c d → Agree modes (list_covered items cs c) (list_covered items cs d)
 list_agree modes [] cs c d h = h

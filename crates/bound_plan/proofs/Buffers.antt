@@ -81,8 +81,8 @@ module _ (laws : NumberLaws) (halos : HaloLaws) (b : BoundValue) (o : Owners) (n
   unfolding bases_of
   bases_are d l =
       ap (λ z. get_or z d 0) (get_or-map (λ (m : RankMesh). m.bases.items) meshes r
-          (one_of meshes r (rank_there laws b.mesh o n meshes pl.distributed r lr)) []
-          (rank_there laws b.mesh o n meshes pl.distributed r lr))
+      (one_of meshes r (rank_there laws b.mesh o n meshes pl.distributed r lr)) []
+      (rank_there laws b.mesh o n meshes pl.distributed r lr))
       ∙ (is_mesh laws b.mesh o n meshes pl.distributed r lr).bases.bases d l
       ∙ ap (λ z. cells_before b.mesh z d) (sets_are laws b.mesh o n meshes pl.distributed r lr)
 

@@ -85,7 +85,7 @@ module _ (laws : NumberLaws) (items : ItemLaws) (halos : HaloLaws) (b : BoundVal
   by_colours : (x y : ℕ) → by_colour (outline (setup_of b o meshes p)) k r x y ≡ goes_before colours p.block (local_at meshes r (site_of b k).set x) (local_at meshes r (site_of b k).set y)
   by_colours x y =
       ap (λ z. before z (get_or (map (λ (c : Colours). c.inner.items) (site_plan p (loop_at b meshes p k)).colours) r []) p.block
-          (local_at meshes r (site_of b k).set x) (local_at meshes r (site_of b k).set y)) blocks_are
+      (local_at meshes r (site_of b k).set x) (local_at meshes r (site_of b k).set y)) blocks_are
       ∙ ap (λ z. before colours.blocks.items z p.block (local_at meshes r (site_of b k).set x) (local_at meshes r (site_of b k).set y)) inner_are
 
   maps_are : (mesh laws b.mesh o n meshes pl.distributed r lr).maps.items ≡ maps_of meshes r
@@ -143,12 +143,12 @@ module _ (laws : NumberLaws) (items : ItemLaws) (halos : HaloLaws) (b : BoundVal
       let meet : Conflict b.mesh (maps_of meshes r) args lpx lpy =
       subst (λ z. Conflict b.mesh z args lpx lpy) maps_are
       (halos.conflicts b.mesh o n r (mesh laws b.mesh o n meshes pl.distributed r lr) args places (halos.dats b.mesh pl.fits.mesh)
-          pl.distributed.are_perms (is_mesh laws b.mesh o n meshes pl.distributed r lr) are
+      pl.distributed.are_perms (is_mesh laws b.mesh o n meshes pl.distributed r lr) are
       (inc_arg d wa.via) (inc_arg d wc.via) lpx lpy (among a d q la wa qa) (among c d s lc wc sc) refl (at_place x lx ex) (at_place y ly ey)
       (ap (λ z. reached_by b.mesh z wa.via) (is_element x lx ex) ∙ sym (reaches a d x wa) ∙ same ∙ reaches c d y wc ∙ ap (λ z. reached_by b.mesh z wc.via) (sym (is_element y ly ey)))) in
       let apart : lpx ≢ lpy = λ e. ne
-          (sym (is_element x lx ex) ∙ ap (λ z. get_or
-          (originals_in (mesh laws b.mesh o n meshes pl.distributed r lr).sets.items (site_of b k).set) z 0) e ∙ is_element y ly ey) in
+      (sym (is_element x lx ex) ∙ ap (λ z. get_or
+      (originals_in (mesh laws b.mesh o n meshes pl.distributed r lr).sets.items (site_of b k).set) z 0) e ∙ is_element y ly ey) in
       ⊎_elim
       (λ t. inl (by_colours x y ∙ t))
       (λ t. inr (by_colours y x ∙ t))

@@ -40,7 +40,7 @@ module _ (numbers : NumberLaws) (items : ItemLaws) (law : ConstantsAreNumbered) 
       (λ z. z)
       (λ (w : (q : Reduction) × (reduces_at b (loop_of (item_at b k)) v ≡ Some q)).
       let m : Merges b (loop_of (item_at b k)) (site_fits numbers items b o n meshes p pl k free) v w.0 =
-          merges b (loop_of (item_at b k)) (site_fits numbers items b o n meshes p pl k free) v w.0 w.1 in
+      merges b (loop_of (item_at b k)) (site_fits numbers items b o n meshes p pl k free) v w.0 w.1 in
       let q : Some is.first ≡ None = sym is.constant ∙ m.constant in
       let z : ⊥ = cc in absurd z)
       (some_or_none (reduces_at b (loop_of (item_at b k)) v))

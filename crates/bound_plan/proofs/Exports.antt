@@ -63,7 +63,7 @@ module _ (halos : HaloLaws) (b : BoundValue) (o : Owners) (n : Perms) (meshes : 
       sym (cond-true (nat_lt c.element g) (owner_of o (dat_set b.mesh c.dat) c.element) 0 w.0) ∙ eqb-true (setup.owner_of (setup_of b o meshes p) c) s u.0 in
       let test : (imports b.mesh o (dat_set b.mesh c.dat) c.element r && owns o (dat_set b.mesh c.dat) c.element s) ≡ true =
       and_from (imports b.mesh o (dat_set b.mesh c.dat) c.element r) (owns o (dat_set b.mesh c.dat) c.element s)
-          (either (dat_set b.mesh c.dat) c.element r w.1) (owns_is o (dat_set b.mesh c.dat) c.element s own) in
+      (either (dat_set b.mesh c.dat) c.element r w.1) (owns_is o (dat_set b.mesh c.dat) c.element s own) in
       let at = any_at (nat_eq c.dat) (item_plan p k).exchange v.0 in
       let same : c.dat ≡ get_or (item_plan p k).exchange at.0 0 = eqb-true c.dat (get_or (item_plan p k).exchange at.0 0) at.2 in
       let el = (halos.listed g (λ x. imports b.mesh o (dat_set b.mesh c.dat) x r && owns o (dat_set b.mesh c.dat) x s)).has c.element (ltb-true c.element g w.0) test in
@@ -104,7 +104,7 @@ module _ (halos : HaloLaws) (b : BoundValue) (o : Owners) (n : Perms) (meshes : 
         subst (λ z. setup.owner_of (setup_of b o meshes p) z ≡ s) w.2
             (cond-true (nat_lt x (set_size b.mesh (dat_set b.mesh d))) (owner_of o (dat_set b.mesh d) x) 0
             (and_parts (nat_lt x (set_size b.mesh (dat_set b.mesh d))) (nat_lt w.0 (dat_dim b.mesh d))
-                (and_parts (nat_lt d (dat_count b.mesh)) (nat_lt x (set_size b.mesh (dat_set b.mesh d)) && nat_lt w.0 (dat_dim b.mesh d))
-                there).1).0
+            (and_parts (nat_lt d (dat_count b.mesh)) (nat_lt x (set_size b.mesh (dat_set b.mesh d)) && nat_lt w.0 (dat_dim b.mesh d))
+            there).1).0
             ∙ owner_is o (dat_set b.mesh d) x s own),
       )

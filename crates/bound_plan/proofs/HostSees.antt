@@ -127,7 +127,7 @@ module _ (halos : HaloLaws) (b : BoundValue) (o : Owners) (meshes : List RankMes
   value_alike c op op_at same (Err f) = refl
   value_alike c op op_at same (Ok x) =
       subst (λ y. Alike (on_value Halts (stored op op_at (s (Variable c)) x) (λ z. Goes (with_cell c z (variables_of s)) []))
-          (on_value Halts (stored op op_at y x) (λ z. Goes (with_cell c z (variables_of t)) []))) same
+      (on_value Halts (stored op op_at y x) (λ z. Goes (with_cell c z (variables_of t)) []))) same
       (store_alike c (stored op op_at (s (Variable c)) x))
 
   index_alike : (v : ℕ) (op : AssignOp) (op_at : Pos) (e : RExprTree) → v < length b.vars → (r : Result ℕ KernelFault) → ((i : ℕ) → r ≡ Ok i → i < var_width b v)
@@ -160,8 +160,8 @@ module _ (halos : HaloLaws) (b : BoundValue) (o : Owners) (meshes : List RankMes
   act_alike (Clear v) f = clear_alike v
   act_alike (Assign v index op op_at e at) f =
       subst (λ r. Alike (assigned b s v index op op_at e at)
-          (on_value Halts r (λ i. on_value Halts (value_of b t e)
-          (λ x. on_value Halts (stored op op_at (t (Variable (record { variable = v; component = i }))) x)
+      (on_value Halts r (λ i. on_value Halts (value_of b t e)
+      (λ x. on_value Halts (stored op op_at (t (Variable (record { variable = v; component = i }))) x)
       (λ z. Goes (with_cell (record { variable = v; component = i }) z (variables_of t)) []))))) (component_same (var_at b v) at index)
       (index_alike v op op_at e f.0 (component_of b s (var_at b v) at index) (component_there v at index f.1))
   act_alike (Line text es) f =

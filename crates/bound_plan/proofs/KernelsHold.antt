@@ -89,6 +89,6 @@ module _ (kernels : KernelLaws) (items : ItemLaws) (b : BoundValue) (o : Owners)
         (kernels.read b (site_of b k) e (loop_fits kernels items b r.planned.fits k (ap is_loop f)));
     stays = λ k e s t c q le ran h.
         kernels.reads b k e (kernel kernels items b r.planned.fits k (ap is_loop q)).0 s t (Data c) r.planned.fits
-            (is_loop_of kernels items b r.planned.fits k (ap is_loop q)) (obeys k (ap is_loop q)) ran
+        (is_loop_of kernels items b r.planned.fits k (ap is_loop q)) (obeys k (ap is_loop q)) ran
         (unmodified kernels items b r.planned.fits k (ap is_loop q) e c (ap (λ z. modifies z c.dat) (sym (args_are b k (ap is_loop q))) ∙ h));
   }

@@ -1,5 +1,5 @@
 -- What elements modify are the cells of their windows on the dats that the loop modifies.
-use Rattle.std.proofs.Common.{◌≡◌, ◌<◌, ℕ, Bool, true, false, List, length, Some, refl, sym, ap, subst, ◌∙◌}
+use Rattle.std.proofs.Common.{◌≡◌, ◌<◌, ℕ, true, List, length, Some, sym, ap, subst, ◌∙◌}
 use Rattle.std.specs.Prelude.{◌&&◌}
 use Rattle.std.proofs.lemmas.Bool.{and_parts, and_from}
 use Rattle.op_num.specs.Reduction.{Reduction}
@@ -70,7 +70,7 @@ module _ (numbers : NumberLaws) (items : ItemLaws) (halos : HaloLaws) (kernels :
       (λ h. let w = both.0 h in and_from (item_modifies b k c.dat) (among (frame_cells b (site_of b k).args e) (Data c)) w.0 (reached_among c w.1 w.2 w.3))
       (λ h.
       let w : (item_modifies b k c.dat ≡ true) × (among (frame_cells b (site_of b k).args e) (Data c) ≡ true) =
-          and_parts (item_modifies b k c.dat) (among (frame_cells b (site_of b k).args e) (Data c)) h in
+      and_parts (item_modifies b k c.dat) (among (frame_cells b (site_of b k).args e) (Data c)) h in
       let u = among_reached c w.1 in
       both.1 (w.0, u.0, u.1, u.2))
 

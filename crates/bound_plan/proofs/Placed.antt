@@ -47,9 +47,12 @@ module _ (laws : NumberLaws) (items : ItemLaws) (b : BoundValue) (o : Owners) (n
 
     pub count_few : places_in p (loop_at b meshes p k) r ≤ executed_in (sets_of meshes r) (site_of b k).set
     count_few = ⊎_elim
-        (λ (h : scatters (site_of b k).args ≡ true). omega
-            (arith, count_is, cond-true (scatters (site_of b k).args) (executed_in (sets_of meshes r) (site_of b k).set)
-            (own_in (sets_of meshes r) (site_of b k).set) h))
+        (λ (h : scatters (site_of b k).args ≡ true). omega (
+          arith,
+          count_is,
+          cond-true (scatters (site_of b k).args) (executed_in (sets_of meshes r) (site_of b k).set)
+              (own_in (sets_of meshes r) (site_of b k).set) h,
+        ))
         (λ (h : scatters (site_of b k).args ≡ false).
         omega (
           arith,
@@ -85,15 +88,15 @@ module _ (laws : NumberLaws) (items : ItemLaws) (b : BoundValue) (o : Owners) (n
     count_executes x l = ⊎_elim
         (λ (h : scatters (site_of b k).args ≡ true).
         let c : places_in p (loop_at b meshes p k) r ≡ executed_in (sets_of meshes r) (site_of b k).set = count_is
-            ∙ cond-true (scatters (site_of b k).args) (executed_in (sets_of meshes r) (site_of b k).set)
-            (own_in (sets_of meshes r) (site_of b k).set) h in
+        ∙ cond-true (scatters (site_of b k).args) (executed_in (sets_of meshes r) (site_of b k).set)
+        (own_in (sets_of meshes r) (site_of b k).set) h in
         let w = executed laws b.mesh o n meshes pl.distributed r lr (site_of b k).set site_fits.set x l in
         let e = all_executed x (scatters_is ∙ h) in
         ((λ m. e ∙ w.0 (omega arith)), (λ m. let z : x < executed_in (sets_of meshes r) (site_of b k).set = w.1 (sym e ∙ m) in omega arith)))
         (λ (h : scatters (site_of b k).args ≡ false).
         let c : places_in p (loop_at b meshes p k) r ≡ own_in (sets_of meshes r) (site_of b k).set = count_is
-            ∙ cond-false (scatters (site_of b k).args) (executed_in (sets_of meshes r) (site_of b k).set)
-            (own_in (sets_of meshes r) (site_of b k).set) h in
+        ∙ cond-false (scatters (site_of b k).args) (executed_in (sets_of meshes r) (site_of b k).set)
+        (own_in (sets_of meshes r) (site_of b k).set) h in
         let w = owned laws b.mesh o n meshes pl.distributed r lr (site_of b k).set site_fits.set x l in
         let e = own_executed x (scatters_is ∙ h) in
         ((λ m. e ∙ w.0 (omega arith)), (λ m. let z : x < own_in (sets_of meshes r) (site_of b k).set = w.1 (sym e ∙ m) in omega arith)))

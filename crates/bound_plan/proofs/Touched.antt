@@ -78,8 +78,13 @@ module _ (b : BoundValue) (s : ℕ) (fits : SiteFits b (site_at b s)) where
       (λ (t : nat_lt v.component (var_width b v.variable) ≡ true).
       let w : Reducing args v.variable o = reduced_some args v.variable o (sym (cond-true (nat_lt v.component (var_width b v.variable)) (reduced_by args v.variable) None t) ∙ h) in
       let f : ArgFits b (site_at b s).set (Global v.variable w.access) = subst (ArgFits b (site_at b s).set) w.is (fits.args w.number no_arg w.there) in
-      let m : Merges v o = record { argument = w; component = ltb-true v.component (var_width b v.variable) t; variable = f.0; constant =
-          no_constant w.access o (var_at b v.variable).constant f.3 w.how } in
+      let m : Merges v o = record {
+        argument = w;
+        component = ltb-true v.component (var_width b v.variable) t;
+        variable = f.0;
+        constant =
+            no_constant w.access o (var_at b v.variable).constant f.3 w.how;
+      } in
       m)
       (λ (t : nat_lt v.component (var_width b v.variable) ≡ false).
       let z : None ≡ Some o = sym (cond-false (nat_lt v.component (var_width b v.variable)) (reduced_by args v.variable) None t) ∙ h in
@@ -117,8 +122,8 @@ module _ (b : BoundValue) (s : ℕ) (fits : SiteFits b (site_at b s)) where
       → is_modified (touch_with (entries b) (dat_width b) (var_width b) (argument_at (site_at b s)) (length args) e (is_constant b) (Variable v)) ≡ false
   constant_touch e v h = ⊎_elim
       (λ (t : is_constant b (Variable v) ≡ true). ap is_modified
-          (cond-true (is_constant b (Variable v)) Read
-          (touch_by (entries b) (dat_width b) (var_width b) (argument_at (site_at b s)) (length args) e (Variable v)) t))
+      (cond-true (is_constant b (Variable v)) Read
+      (touch_by (entries b) (dat_width b) (var_width b) (argument_at (site_at b s)) (length args) e (Variable v)) t))
       (λ (t : is_constant b (Variable v) ≡ false).
       ap is_modified (cond-false (is_constant b (Variable v)) Read (touch_by (entries b) (dat_width b) (var_width b) (argument_at (site_at b s)) (length args) e (Variable v)) t)
       ∙ unmodified (entries b) (dat_width b) (var_width b) (argument_at (site_at b s)) e (Variable v) (length args) (λ a l r. reads e v h a l (arg_at (site_at b s) a) refl r))

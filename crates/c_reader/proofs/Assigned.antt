@@ -64,14 +64,14 @@ module _ (ks : List Kind) (f k d : ℕ) (room : suc k + d ≡ 65) (before : k �
       let r = spans_split ks (suc (suc n)) (expr (suc k) i) (sign_mark k sg.RightBracket ∷ []) e s.2.2 in
       let inner = (expr_exact ks k k d room (omega arith)).complete i (suc (suc n)) r.0 o r.1 (sg.RightBracket, right_bracket, r.2.0) in
       place_element ks d x n r.0 i (first_deep (suc (suc n)) (expr (suc k) i)) s.0 (ident_is ks x n s.0 s.1) s.2.0 inner r.2.0
-          ∙ ap (λ (z : ℕ). after (first_deep (suc (suc n)) (expr (suc k) i)) (Ok (Element x i, z))) r.2.2
-          ∙ ap (λ z. after z (Ok (Element x i, e)))
-          (sym (deep_over n (ident_mark k x) (sign_mark k sg.LeftBracket ∷ (expr (suc k) i ++ sign_mark k sg.RightBracket ∷ [])) low
-          ∙ deep_over (suc n) (sign_mark k sg.LeftBracket) (expr (suc k) i ++ sign_mark k sg.RightBracket ∷ []) low
-          ∙ deep_closed ks (suc (suc n)) (expr (suc k) i) (sign_mark k sg.RightBracket) r.0 r.1 low))
+      ∙ ap (λ (z : ℕ). after (first_deep (suc (suc n)) (expr (suc k) i)) (Ok (Element x i, z))) r.2.2
+      ∙ ap (λ z. after z (Ok (Element x i, e)))
+      (sym (deep_over n (ident_mark k x) (sign_mark k sg.LeftBracket ∷ (expr (suc k) i ++ sign_mark k sg.RightBracket ∷ [])) low
+      ∙ deep_over (suc n) (sign_mark k sg.LeftBracket) (expr (suc k) i ++ sign_mark k sg.RightBracket ∷ []) low
+      ∙ deep_closed ks (suc (suc n)) (expr (suc k) i) (sign_mark k sg.RightBracket) r.0 r.1 low))
   place_complete (Target at x) n e o s h =
       place_target ks d x n s.0 (ident_is ks x (suc n) s.2.0 s.2.1) ∙ ap (λ (z : ℕ). Ok (Target z x, suc (suc n))) (sym s.1)
-          ∙ ap (λ (z : ℕ). Ok (Target at x, z)) s.2.2 ∙ ap (λ z. after z (Ok (Target at x, e))) (sym (target_deep at x n))
+      ∙ ap (λ (z : ℕ). Ok (Target at x, z)) s.2.2 ∙ ap (λ z. after z (Ok (Target at x, e))) (sym (target_deep at x n))
 
   named_sound : (x : Ident) (n j : ℕ) (y : PlaceTree × ℕ) → slice_get ks n ≡ Some (kind.Name x.name) → x.at ≡ n → suc n ≡ j → named_place ks d x j ≡ Ok y → Found ks IsPlace (place k) Free n y.0 y.1
   named_sound x n j y s a i h = by_test (sign_is sg.LeftBracket (slice_get ks j)) refl h
@@ -131,7 +131,7 @@ module _ (ks : List Kind) (f k d : ℕ) (room : suc k + d ≡ 65) (before : k �
           (Err (TooDeep q)) → 64 ≤ q
       by_test true h =
           far_bind (read ks d 0 (suc j)) _ q h ((expr_exact ks k k d room (omega arith)).far (suc j) q (omega arith))
-              (λ v r g. far_bind (sign_at ks sg.RightBracket v.1) _ q g (sign_far ks sg.RightBracket v.1 q) (λ e r g. cc))
+          (λ v r g. far_bind (sign_at ks sg.RightBracket v.1) _ q g (sign_far ks sg.RightBracket v.1 q) (λ e r g. cc))
       by_test false h = cc
 
   place_far : (n q : ℕ) → f ≤ n → place_at ks d n ≡ Err (TooDeep q) → 64 ≤ q
@@ -168,10 +168,10 @@ module _ (ks : List Kind) (f k d : ℕ) (room : suc k + d ≡ 65) (before : k �
   row_exact : Exact ks f 4 (λ v. IsPlace v.0 × IsGrouped v.1.1.0) (λ v. assignment k (assigned v)) Free Free (assignment_row ks d)
   row_exact =
       turned_exact ks f (omega arith) (λ v o. (o.0, o.1)) (λ v o. (o.0, o.1)) (λ v e h. h) (λ v e h. h)
-          (both_exact ks f 1 _ _ _ _ _ _ _ _ _ _ _ place_exact
-          (then_exact ks {from' = f + 1} (omega arith) (assign_exact ks (f + 1) k low)
-          (needy_then ks (omega arith) (expr_exact ks (f + 1) k d room before) (sign_exact ks (f + 1) k sg.Semicolon low)
-          (λ a b j e s. (sg.Semicolon, semicolon, s.0)))) (λ a b j e o s. assign_bracket b.0.0 j s.0))
+      (both_exact ks f 1 _ _ _ _ _ _ _ _ _ _ _ place_exact
+      (then_exact ks {from' = f + 1} (omega arith) (assign_exact ks (f + 1) k low)
+      (needy_then ks (omega arith) (expr_exact ks (f + 1) k d room before) (sign_exact ks (f + 1) k sg.Semicolon low)
+      (λ a b j e s. (sg.Semicolon, semicolon, s.0)))) (λ a b j e o s. assign_bracket b.0.0 j s.0))
 
   assignment_is : (n : ℕ) → assignment_at ks d n ≡ made assigned (assignment_row ks d) n
   unfolding assignment_at
@@ -180,7 +180,7 @@ module _ (ks : List Kind) (f k d : ℕ) (room : suc k + d ≡ 65) (before : k �
   pub assignment_complete : (a : AssignmentTree) (n e : ℕ) → IsAssignment a → Spans ks n (assignment k a) e → assignment_at ks d n ≡ after (first_deep n (assignment k a)) (Ok (a, e))
   assignment_complete a n e o s =
       assignment_is n ∙ made_complete assigned (assignment_row ks d) n e (a.place, ((a.op, a.at), (a.value, tt)))
-          (first_deep n (assignment k a)) (row_exact.complete (a.place, ((a.op, a.at), (a.value, tt))) n e (o.0, o.1) s tt)
+      (first_deep n (assignment k a)) (row_exact.complete (a.place, ((a.op, a.at), (a.value, tt))) n e (o.0, o.1) s tt)
 
   pub assignment_sound : (n : ℕ) (y : AssignmentTree × ℕ) → assignment_at ks d n ≡ Ok y → Found ks IsAssignment (assignment k) Free n y.0 y.1
   assignment_sound n y h =

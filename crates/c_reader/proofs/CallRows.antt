@@ -30,8 +30,8 @@ pub then_exact : (ks : List Kind) {A B : Type 0} {from from' size more : ℕ} {m
     → Exact ks from (size + more) (λ v. okB v.1) (λ v. marksA v.0 ++ marksB v.1) (λ v e. needsB v.1 e) (λ v e. givesB v.1 e) (both p q)
 then_exact ks {from = from} {size = size} l x y =
     turned_exact ks from (omega arith) (λ v o. (tt, o)) (λ v o. o.1) (λ v e h. h) (λ v e h. h)
-        (both_exact ks from size _ _ _ _ _ _ _ _ _ _ _ x (turned_exact ks (from + size) l (λ v o. o) (λ v o. o) (λ v e h. h) (λ v e h. h) y)
-        (λ a b j e o s. tt))
+    (both_exact ks from size _ _ _ _ _ _ _ _ _ _ _ x (turned_exact ks (from + size) l (λ v o. o) (λ v o. o) (λ v e h. h) (λ v e h. h) y)
+    (λ a b j e o s. tt))
 
 -- something that needs what follows it, before tokens alone
 pub needy_then : (ks : List Kind) {A B : Type 0} {from from' size more : ℕ} {okA : A → Type 0} {marksA : A → List Mark}
@@ -41,8 +41,8 @@ pub needy_then : (ks : List Kind) {A B : Type 0} {from from' size more : ℕ} {o
     → Exact ks from (size + more) (λ v. okA v.0) (λ v. marksA v.0 ++ marksB v.1) Free Free (both p q)
 needy_then ks {from = from} {size = size} l x y follow =
     turned_exact ks from (omega arith) (λ v o. (o, tt)) (λ v o. o.0) (λ v e h. tt) (λ v e h. tt)
-        (both_exact ks from size _ _ _ _ _ _ _ _ _ _ _ x
-        (turned_exact ks (from + size) (omega arith) (λ v o. o) (λ v o. o) (λ v e h. h) (λ v e h. h) y) (λ a b j e o s. follow a b j e s))
+    (both_exact ks from size _ _ _ _ _ _ _ _ _ _ _ x
+    (turned_exact ks (from + size) (omega arith) (λ v o. o) (λ v o. o) (λ v e h. h) (λ v e h. h) y) (λ a b j e o s. follow a b j e s))
 
 values_are : (k : ℕ) (es : List ExprTree) → values k es ≡ tails k (expr (suc k)) es
 values_are k [] = refl
@@ -72,8 +72,8 @@ values_exact ks from k d l f =
       complete = λ es n e o s h.
           (let s' = subst (λ z. Spans ks n z e) (values_are k es) s in
           tails_complete ks from 1 k IsGrouped (expr (suc k)) (λ a j. ClosedAt ks j) Free (read ks d 0) one fits by_comma by_paren es
-              (length ks) n e (omega (arith, spans_end ks n (tails k (expr (suc k)) es) e s', values_long k es, paren_within ks e h))
-              (grouped_valid es o) s' h ∙ ap (λ z. after (first_deep n z) (Ok (es, e))) (sym (values_are k es)));
+          (length ks) n e (omega (arith, spans_end ks n (tails k (expr (suc k)) es) e s', values_long k es, paren_within ks e h))
+          (grouped_valid es o) s' h ∙ ap (λ z. after (first_deep n z) (Ok (es, e))) (sym (values_are k es)));
       sound = λ n y h.
           (let r = tails_sound ks from 1 k IsGrouped (expr (suc k)) (λ a j. ClosedAt ks j) Free (read ks d 0) one fits by_comma by_paren (length ks) n y h in
           record {
@@ -118,103 +118,103 @@ module _ (ks : List Kind) (f k d : ℕ) (room : suc k + d ≡ 65) (before : k �
   init_exact : Exact ks f 9 Any (λ v. call k (CallInit v.0 v.1.1.1.1.1.1.0)) Free Free (init_row ks)
   init_exact =
       flat ks (marked_exact ks f k wd.OpInit fits)
-          (flat ks (sign_exact ks f k sg.LeftParen fits)
-          (flat ks (word_exact ks f k wd.Argc fits)
-          (flat ks (sign_exact ks f k sg.Comma fits)
-          (flat ks (word_exact ks f k wd.Argv fits)
-          (flat ks (sign_exact ks f k sg.Comma fits)
-          (flat ks (number_exact ks f k fits) (flat ks (sign_exact ks f k sg.RightParen fits) (sign_exact ks f k sg.Semicolon fits))))))))
+      (flat ks (sign_exact ks f k sg.LeftParen fits)
+      (flat ks (word_exact ks f k wd.Argc fits)
+      (flat ks (sign_exact ks f k sg.Comma fits)
+      (flat ks (word_exact ks f k wd.Argv fits)
+      (flat ks (sign_exact ks f k sg.Comma fits)
+      (flat ks (number_exact ks f k fits) (flat ks (sign_exact ks f k sg.RightParen fits) (sign_exact ks f k sg.Semicolon fits))))))))
 
   decl_set_exact : Exact ks f 10 (λ v. IsGrouped v.1.1.1.1.1.0) (λ v. call k (DeclSet v.1.1.1.0 v.1.0 v.1.1.1.1.1.0 v.1.1.1.1.1.1.1.0)) Free Free (decl_set_row ks d)
   decl_set_exact =
       then_exact ks {from' = f + 1} (omega arith) (word_exact ks f k wd.OpSet fits)
-          (then_exact ks {from' = f + 1} (omega arith) (ident_exact ks (f + 1) k fits)
-          (then_exact ks {from' = f + 1} (omega arith) (sign_exact ks (f + 1) k sg.Assign fits)
-          (then_exact ks {from' = f + 1} (omega arith) (marked_exact ks (f + 1) k wd.OpDeclSet fits)
-          (then_exact ks {from' = f + 1} (omega arith) (sign_exact ks (f + 1) k sg.LeftParen fits)
-          (needy_then ks (omega arith) (expr_exact ks (f + 1) k d room before)
-          (flat ks (sign_exact ks (f + 1) k sg.Comma fits)
-          (flat ks (text_exact ks (f + 1) k fits)
-          (flat ks (sign_exact ks (f + 1) k sg.RightParen fits) (sign_exact ks (f + 1) k sg.Semicolon fits))))
-          (λ a b j e s. (sg.Comma, comma, s.0)))))))
+      (then_exact ks {from' = f + 1} (omega arith) (ident_exact ks (f + 1) k fits)
+      (then_exact ks {from' = f + 1} (omega arith) (sign_exact ks (f + 1) k sg.Assign fits)
+      (then_exact ks {from' = f + 1} (omega arith) (marked_exact ks (f + 1) k wd.OpDeclSet fits)
+      (then_exact ks {from' = f + 1} (omega arith) (sign_exact ks (f + 1) k sg.LeftParen fits)
+      (needy_then ks (omega arith) (expr_exact ks (f + 1) k d room before)
+      (flat ks (sign_exact ks (f + 1) k sg.Comma fits)
+      (flat ks (text_exact ks (f + 1) k fits)
+      (flat ks (sign_exact ks (f + 1) k sg.RightParen fits) (sign_exact ks (f + 1) k sg.Semicolon fits))))
+      (λ a b j e s. (sg.Comma, comma, s.0)))))))
 
   decl_map_exact : Exact ks f 16 Any
       (λ v. call k (DeclMap v.1.1.1.0 v.1.0 v.1.1.1.1.1.0 v.1.1.1.1.1.1.1.0 v.1.1.1.1.1.1.1.1.1.0 v.1.1.1.1.1.1.1.1.1.1.1.0
       v.1.1.1.1.1.1.1.1.1.1.1.1.1.0)) Free Free (decl_map_row ks)
   decl_map_exact =
       flat ks (word_exact ks f k wd.OpMap fits)
-          (flat ks (ident_exact ks f k fits)
-          (flat ks (sign_exact ks f k sg.Assign fits)
-          (flat ks (marked_exact ks f k wd.OpDeclMap fits)
-          (flat ks (sign_exact ks f k sg.LeftParen fits)
-          (flat ks (ident_exact ks f k fits)
-          (flat ks (sign_exact ks f k sg.Comma fits)
-          (flat ks (ident_exact ks f k fits)
-          (flat ks (sign_exact ks f k sg.Comma fits)
-          (flat ks (number_exact ks f k fits)
-          (flat ks (sign_exact ks f k sg.Comma fits)
-          (flat ks (ident_exact ks f k fits)
-          (flat ks (sign_exact ks f k sg.Comma fits)
-          (flat ks (text_exact ks f k fits)
-          (flat ks (sign_exact ks f k sg.RightParen fits) (sign_exact ks f k sg.Semicolon fits)))))))))))))))
+      (flat ks (ident_exact ks f k fits)
+      (flat ks (sign_exact ks f k sg.Assign fits)
+      (flat ks (marked_exact ks f k wd.OpDeclMap fits)
+      (flat ks (sign_exact ks f k sg.LeftParen fits)
+      (flat ks (ident_exact ks f k fits)
+      (flat ks (sign_exact ks f k sg.Comma fits)
+      (flat ks (ident_exact ks f k fits)
+      (flat ks (sign_exact ks f k sg.Comma fits)
+      (flat ks (number_exact ks f k fits)
+      (flat ks (sign_exact ks f k sg.Comma fits)
+      (flat ks (ident_exact ks f k fits)
+      (flat ks (sign_exact ks f k sg.Comma fits)
+      (flat ks (text_exact ks f k fits)
+      (flat ks (sign_exact ks f k sg.RightParen fits) (sign_exact ks f k sg.Semicolon fits)))))))))))))))
 
   decl_dat_exact : Exact ks f 16 Any
       (λ v. call k (DeclDat v.1.1.1.0 v.1.0 v.1.1.1.1.1.0 v.1.1.1.1.1.1.1.0 v.1.1.1.1.1.1.1.1.1.0 v.1.1.1.1.1.1.1.1.1.1.1.0
       v.1.1.1.1.1.1.1.1.1.1.1.1.1.0)) Free Free (decl_dat_row ks)
   decl_dat_exact =
       flat ks (word_exact ks f k wd.OpDat fits)
-          (flat ks (ident_exact ks f k fits)
-          (flat ks (sign_exact ks f k sg.Assign fits)
-          (flat ks (marked_exact ks f k wd.OpDeclDat fits)
-          (flat ks (sign_exact ks f k sg.LeftParen fits)
-          (flat ks (ident_exact ks f k fits)
-          (flat ks (sign_exact ks f k sg.Comma fits)
-          (flat ks (number_exact ks f k fits)
-          (flat ks (sign_exact ks f k sg.Comma fits)
-          (flat ks (text_exact ks f k fits)
-          (flat ks (sign_exact ks f k sg.Comma fits)
-          (flat ks (ident_exact ks f k fits)
-          (flat ks (sign_exact ks f k sg.Comma fits)
-          (flat ks (text_exact ks f k fits)
-          (flat ks (sign_exact ks f k sg.RightParen fits) (sign_exact ks f k sg.Semicolon fits)))))))))))))))
+      (flat ks (ident_exact ks f k fits)
+      (flat ks (sign_exact ks f k sg.Assign fits)
+      (flat ks (marked_exact ks f k wd.OpDeclDat fits)
+      (flat ks (sign_exact ks f k sg.LeftParen fits)
+      (flat ks (ident_exact ks f k fits)
+      (flat ks (sign_exact ks f k sg.Comma fits)
+      (flat ks (number_exact ks f k fits)
+      (flat ks (sign_exact ks f k sg.Comma fits)
+      (flat ks (text_exact ks f k fits)
+      (flat ks (sign_exact ks f k sg.Comma fits)
+      (flat ks (ident_exact ks f k fits)
+      (flat ks (sign_exact ks f k sg.Comma fits)
+      (flat ks (text_exact ks f k fits)
+      (flat ks (sign_exact ks f k sg.RightParen fits) (sign_exact ks f k sg.Semicolon fits)))))))))))))))
 
   decl_const_exact : Exact ks f 9 Any (λ v. call k (DeclConst v.0 v.1.1.0 v.1.1.1.1.0 v.1.1.1.1.1.1.0)) Free Free (decl_const_row ks)
   decl_const_exact =
       flat ks (marked_exact ks f k wd.OpDeclConst fits)
-          (flat ks (sign_exact ks f k sg.LeftParen fits)
-          (flat ks (number_exact ks f k fits)
-          (flat ks (sign_exact ks f k sg.Comma fits)
-          (flat ks (text_exact ks f k fits)
-          (flat ks (sign_exact ks f k sg.Comma fits)
-          (flat ks (global_exact ks f k fits) (flat ks (sign_exact ks f k sg.RightParen fits) (sign_exact ks f k sg.Semicolon fits))))))))
+      (flat ks (sign_exact ks f k sg.LeftParen fits)
+      (flat ks (number_exact ks f k fits)
+      (flat ks (sign_exact ks f k sg.Comma fits)
+      (flat ks (text_exact ks f k fits)
+      (flat ks (sign_exact ks f k sg.Comma fits)
+      (flat ks (global_exact ks f k fits) (flat ks (sign_exact ks f k sg.RightParen fits) (sign_exact ks f k sg.Semicolon fits))))))))
 
   par_loop_exact : Exact ks f 9 Any (λ v. call k (ParLoop v.0 v.1.1.0 v.1.1.1.1.0 v.1.1.1.1.1.1.0 v.1.1.1.1.1.1.1.0)) Free Free (par_loop_row ks)
   par_loop_exact =
       flat ks (marked_exact ks f k wd.OpParLoop fits)
-          (flat ks (sign_exact ks f k sg.LeftParen fits)
-          (flat ks (ident_exact ks f k fits)
-          (flat ks (sign_exact ks f k sg.Comma fits)
-          (flat ks (text_exact ks f k fits)
-          (flat ks (sign_exact ks f k sg.Comma fits)
-          (flat ks (ident_exact ks f k fits)
-          (needy_then ks (omega arith) (args_exact ks f k fits)
-          (flat ks (sign_exact ks f k sg.RightParen fits) (sign_exact ks f k sg.Semicolon fits)) (λ a b j e s. s.0))))))))
+      (flat ks (sign_exact ks f k sg.LeftParen fits)
+      (flat ks (ident_exact ks f k fits)
+      (flat ks (sign_exact ks f k sg.Comma fits)
+      (flat ks (text_exact ks f k fits)
+      (flat ks (sign_exact ks f k sg.Comma fits)
+      (flat ks (ident_exact ks f k fits)
+      (needy_then ks (omega arith) (args_exact ks f k fits)
+      (flat ks (sign_exact ks f k sg.RightParen fits) (sign_exact ks f k sg.Semicolon fits)) (λ a b j e s. s.0))))))))
 
   printf_exact : Exact ks f 5 (λ v. AllGrouped v.1.1.1.0) (λ v. call k (Printf v.0 v.1.1.0 v.1.1.1.0)) Free Free (printf_row ks d)
   printf_exact =
       then_exact ks {from' = f + 1} (omega arith) (marked_exact ks f k wd.OpPrintf fits)
-          (then_exact ks {from' = f + 1} (omega arith) (sign_exact ks (f + 1) k sg.LeftParen fits)
-          (then_exact ks {from' = f + 1} (omega arith) (text_exact ks (f + 1) k fits)
-          (needy_then ks (omega arith) (values_exact ks (f + 1) k d room before)
-          (flat ks (sign_exact ks (f + 1) k sg.RightParen fits) (sign_exact ks (f + 1) k sg.Semicolon fits)) (λ a b j e s. s.0))))
+      (then_exact ks {from' = f + 1} (omega arith) (sign_exact ks (f + 1) k sg.LeftParen fits)
+      (then_exact ks {from' = f + 1} (omega arith) (text_exact ks (f + 1) k fits)
+      (needy_then ks (omega arith) (values_exact ks (f + 1) k d room before)
+      (flat ks (sign_exact ks (f + 1) k sg.RightParen fits) (sign_exact ks (f + 1) k sg.Semicolon fits)) (λ a b j e s. s.0))))
 
   print_dat_exact : Exact ks f 7 Any (λ v. call k (PrintDat v.0 v.1.1.0 v.1.1.1.1.0)) Free Free (print_dat_row ks)
   print_dat_exact =
       flat ks (marked_exact ks f k wd.OpPrintDatToTxtfile fits)
-          (flat ks (sign_exact ks f k sg.LeftParen fits)
-          (flat ks (ident_exact ks f k fits)
-          (flat ks (sign_exact ks f k sg.Comma fits)
-          (flat ks (text_exact ks f k fits) (flat ks (sign_exact ks f k sg.RightParen fits) (sign_exact ks f k sg.Semicolon fits))))))
+      (flat ks (sign_exact ks f k sg.LeftParen fits)
+      (flat ks (ident_exact ks f k fits)
+      (flat ks (sign_exact ks f k sg.Comma fits)
+      (flat ks (text_exact ks f k fits) (flat ks (sign_exact ks f k sg.RightParen fits) (sign_exact ks f k sg.Semicolon fits))))))
 
   pub call_complete : (c : OpCallTree) (n e : ℕ) → IsCall c → Spans ks n (call k c) e → call_at ks d (call_lead c) n ≡ after (first_deep n (call k c)) (Ok (c, e))
   call_complete (CallInit at x) n e o s =
@@ -223,10 +223,10 @@ module _ (ks : List Kind) (f k d : ℕ) (room : suc k + d ≡ 65) (before : k �
       made_complete _ (decl_set_row ks d) n e (tt, (x, (tt, (at, (tt, (v, (tt, (t, (tt, tt))))))))) _ (decl_set_exact.complete (tt, (x, (tt, (at, (tt, (v, (tt, (t, (tt, tt))))))))) n e o s tt)
   call_complete (DeclMap at x a b m v t) n e o s =
       made_complete _ (decl_map_row ks) n e (tt, (x, (tt, (at, (tt, (a, (tt, (b, (tt, (m, (tt, (v, (tt, (t, (tt, tt))))))))))))))) _
-          (decl_map_exact.complete (tt, (x, (tt, (at, (tt, (a, (tt, (b, (tt, (m, (tt, (v, (tt, (t, (tt, tt))))))))))))))) n e tt s tt)
+      (decl_map_exact.complete (tt, (x, (tt, (at, (tt, (a, (tt, (b, (tt, (m, (tt, (v, (tt, (t, (tt, tt))))))))))))))) n e tt s tt)
   call_complete (DeclDat at x a m u v t) n e o s =
       made_complete _ (decl_dat_row ks) n e (tt, (x, (tt, (at, (tt, (a, (tt, (m, (tt, (u, (tt, (v, (tt, (t, (tt, tt))))))))))))))) _
-          (decl_dat_exact.complete (tt, (x, (tt, (at, (tt, (a, (tt, (m, (tt, (u, (tt, (v, (tt, (t, (tt, tt))))))))))))))) n e tt s tt)
+      (decl_dat_exact.complete (tt, (x, (tt, (at, (tt, (a, (tt, (m, (tt, (u, (tt, (v, (tt, (t, (tt, tt))))))))))))))) n e tt s tt)
   call_complete (DeclConst at m t g) n e o s =
       made_complete _ (decl_const_row ks) n e (at, (tt, (m, (tt, (t, (tt, (g, (tt, tt)))))))) _ (decl_const_exact.complete (at, (tt, (m, (tt, (t, (tt, (g, (tt, tt)))))))) n e tt s tt)
   call_complete (ParLoop at x t a xs) n e o s =

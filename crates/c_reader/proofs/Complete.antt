@@ -140,7 +140,7 @@ deref_front : (ks : List Kind) (rec : Rec) (n at : ℕ) (x : Ident) (e' : ℕ) �
 unfolding front
 deref_front ks rec n at x e' h a b y e =
     rw (h, b) (let f : ℕ → ℕ → ℕ → Step = λ i j to. Ok (Deref i (record { name = x.name; at = j }), to) in
-        ap (λ i. f i (suc n) (suc (suc n))) (sym a) ∙ ap (λ j. f at j (suc (suc n))) (sym y) ∙ ap (f at x.at) e)
+    ap (λ i. f i (suc n) (suc (suc n))) (sym a) ∙ ap (λ j. f at j (suc (suc n))) (sym y) ∙ ap (f at x.at) e)
 
 unary_front : (ks : List Kind) (rec : Rec) (n : ℕ) (op : UnaryOp) (at : ℕ) (i : ExprTree) (p : Option ℕ) (e' : ℕ)
     → slice_get ks n ≡ Some (kind.Sign (unary_sign_of op)) → at ≡ n → rec 11 (suc n) ≡ after p (Ok (i, e'))
@@ -172,8 +172,15 @@ extremum_front : (ks : List Kind) (rec : Rec) (n : ℕ) (w : MinMax) (at : ℕ) 
     → slice_get ks j ≡ Some (kind.Sign sign.RightParen) → suc j ≡ e' → front ks rec n ≡ after (or_else p q) (Ok (Extremum w at x y, e'))
 unfolding front
 extremum_front ks rec n w at x y None None i j e' h a o r c s d e =
-    rw (h, word_lead_of-extreme w, sign_at_is ks sign.LeftParen (suc n) o, r, sign_at_is ks sign.Comma i c, s,
-        sign_at_is ks sign.RightParen j d) (ap (λ z. Ok (Extremum w z x y, suc j)) (sym a) ∙ ap (λ z. Ok (Extremum w at x y, z)) e)
+    rw (
+      h,
+      word_lead_of-extreme w,
+      sign_at_is ks sign.LeftParen (suc n) o,
+      r,
+      sign_at_is ks sign.Comma i c,
+      s,
+      sign_at_is ks sign.RightParen j d,
+    ) (ap (λ z. Ok (Extremum w z x y, suc j)) (sym a) ∙ ap (λ z. Ok (Extremum w at x y, z)) e)
 extremum_front ks rec n w at x y None (Some q) i j e' h a o r c s d e =
     rw (h, word_lead_of-extreme w, sign_at_is ks sign.LeftParen (suc n) o, r, sign_at_is ks sign.Comma i c, s) refl
 extremum_front ks rec n w at x y (Some p) q i j e' h a o r c s d e =
@@ -282,8 +289,8 @@ complete ks (Index x e) (suc d) m n k e' l ml g s q =
     let inner = complete ks e d 0 (suc (suc n)) (suc k) r.0 (omega (arith, l)) zero-le g r.1 (ends_closed ks e r.0 sign.RightBracket right_bracket c) in
     let whole = ended ks d 0 (suc (suc n)) (suc k) e r.0 inner (rest_closed ks d 0 e r.0 sign.RightBracket right_bracket c) in
     rw (fits, deep_closed ks (suc (suc n)) (expr (suc k) e) (sign_mark k sign.RightBracket) r.0 r.1 fits)
-        (read_front ks d m n e' (first_deep (suc (suc n)) (expr (suc k) e)) (Index x e) refl
-        (index_front ks (read ks d) n x e (first_deep (suc (suc n)) (expr (suc k) e)) r.0 e' s.0 s.1 s.2.0 whole c r.2.2))
+    (read_front ks d m n e' (first_deep (suc (suc n)) (expr (suc k) e)) (Index x e) refl
+    (index_front ks (read ks d) n x e (first_deep (suc (suc n)) (expr (suc k) e)) r.0 e' s.0 s.1 s.2.0 whole c r.2.2))
 complete ks (Deref at x) (suc d) m n k e' l ml g s q =
     rw (level_fits k d l) (read_front ks d m n e' None (Deref at x) refl (deref_front ks (read ks d) n at x e' s.0 s.1 s.2.0 s.2.1 s.2.2))
 complete ks (Unary op at e) (suc d) m n k e' l ml g s q =
@@ -297,7 +304,7 @@ complete ks (Unary op at e) (suc d) m n k e' l ml g s q =
     let inner = complete ks e d 11 (suc n) (suc k) e' (omega (arith, l)) strong g.1 s.2 behind in
     let whole = ended ks d 11 (suc n) (suc k) e e' inner (rest_stops ks d 11 e e' beyond (λ z. absurd (omega arith))) in
     rw (level_fits k d l) (read_front ks d m n e' (first_deep (suc n) (expr (suc k) e)) (Unary op at e) refl
-        (unary_front ks (read ks d) n op at e (first_deep (suc n) (expr (suc k) e)) e' s.0 s.1 whole))
+    (unary_front ks (read ks d) n op at e (first_deep (suc n) (expr (suc k) e)) e' s.0 s.1 whole))
 complete ks (Binary op at a b) (suc d) m n k e' l ml g s q =
     let mark = named_sign (operator_level k (suc (chain_of a))) (sign_of op) at in
     let r = spans_split ks n (expr k a) (mark ∷ expr (suc k) b) e' s in
@@ -337,8 +344,8 @@ complete ks (Choice at c y z) (suc d) m n k e' l ml g s q =
     let step = choice_step ks d r.0 c y z (first_deep (suc r.0) (expr (suc k) y)) (first_deep (suc t.0) (expr (suc k) z)) t.0 e' r.2.0 first_whole t.2.0 second_whole in
     let deep : first_deep n (expr k (Choice at c y z)) ≡ or_else (first_deep n (expr k c)) (or_else (first_deep (suc r.0) (expr (suc k) y)) (first_deep (suc t.0) (expr (suc k) z))) =
     deep_between ks n (expr k c) (named_sign k sign.Question at) tail r.0 r.1 fits
-        ∙ ap (or_else (first_deep n (expr k c)))
-        (deep_between ks (suc r.0) (expr (suc k) y) (sign_mark k sign.Colon) (expr (suc k) z) t.0 t.1 fits) in
+    ∙ ap (or_else (first_deep n (expr k c)))
+    (deep_between ks (suc r.0) (expr (suc k) y) (sign_mark k sign.Colon) (expr (suc k) z) t.0 t.1 fits) in
     let is : Choice r.0 c y z ≡ Choice at c y z = ap (λ i. Choice i c y z) (sym r.2.1) in
     let end = rest_stops ks (suc d) 0 (Choice at c y z) e' none (λ _. q.question refl) in
     rw (lowest, deep, end, test, step, is) (sym (after_or_else (first_deep n (expr k c)) _ _))
@@ -349,8 +356,8 @@ complete ks (Paren at e) (suc d) m n k e' l ml g s q =
     let inner = complete ks e d 0 (suc n) (suc k) r.0 (omega (arith, l)) zero-le g r.1 (ends_closed ks e r.0 sign.RightParen right_paren c) in
     let whole = ended ks d 0 (suc n) (suc k) e r.0 inner (rest_closed ks d 0 e r.0 sign.RightParen right_paren c) in
     rw (fits, deep_closed ks (suc n) (expr (suc k) e) (sign_mark k sign.RightParen) r.0 r.1 fits)
-        (read_front ks d m n e' (first_deep (suc n) (expr (suc k) e)) (Paren at e) refl
-        (paren_front ks (read ks d) n at e (first_deep (suc n) (expr (suc k) e)) r.0 e' s.0 s.1 whole c r.2.2))
+    (read_front ks d m n e' (first_deep (suc n) (expr (suc k) e)) (Paren at e) refl
+    (paren_front ks (read ks d) n at e (first_deep (suc n) (expr (suc k) e)) r.0 e' s.0 s.1 whole c r.2.2))
 complete ks (Extremum w at a b) (suc d) m n k e' l ml g s q =
     let fits = level_fits k d l in
     let from = suc (suc n) in
@@ -361,11 +368,14 @@ complete ks (Extremum w at a b) (suc d) m n k e' l ml g s q =
     let first_whole = ended ks d 0 from (suc k) a r.0 first (rest_closed ks d 0 a r.0 sign.Comma comma r.2.0) in
     let second = complete ks b d 0 (suc r.0) (suc k) t.0 (omega (arith, l)) zero-le g.1 t.1 (ends_closed ks b t.0 sign.RightParen right_paren t.2.0) in
     let second_whole = ended ks d 0 (suc r.0) (suc k) b t.0 second (rest_closed ks d 0 b t.0 sign.RightParen right_paren t.2.0) in
-    rw (fits, deep_between ks from (expr (suc k) a) (sign_mark k sign.Comma) tail r.0 r.1 fits,
-        deep_closed ks (suc r.0) (expr (suc k) b) (sign_mark k sign.RightParen) t.0 t.1 fits)
-        (read_front ks d m n e' (or_else (first_deep from (expr (suc k) a)) (first_deep (suc r.0) (expr (suc k) b))) (Extremum w at a b)
-        refl (extremum_front ks (read ks d) n w at a b (first_deep from (expr (suc k) a)) (first_deep (suc r.0) (expr (suc k) b)) r.0 t.0 e'
-        s.0 s.1 s.2.0 first_whole r.2.0 second_whole t.2.0 t.2.2))
+    rw (
+      fits,
+      deep_between ks from (expr (suc k) a) (sign_mark k sign.Comma) tail r.0 r.1 fits,
+      deep_closed ks (suc r.0) (expr (suc k) b) (sign_mark k sign.RightParen) t.0 t.1 fits,
+    )
+    (read_front ks d m n e' (or_else (first_deep from (expr (suc k) a)) (first_deep (suc r.0) (expr (suc k) b))) (Extremum w at a b)
+    refl (extremum_front ks (read ks d) n w at a b (first_deep from (expr (suc k) a)) (first_deep (suc r.0) (expr (suc k) b)) r.0 t.0 e'
+    s.0 s.1 s.2.0 first_whole r.2.0 second_whole t.2.0 t.2.2))
 complete ks (Absolute at e) (suc d) m n k e' l ml g s q =
     let fits = level_fits k d l in
     let from = suc (suc n) in
@@ -374,5 +384,5 @@ complete ks (Absolute at e) (suc d) m n k e' l ml g s q =
     let inner = complete ks e d 0 from (suc k) r.0 (omega (arith, l)) zero-le g r.1 (ends_closed ks e r.0 sign.RightParen right_paren c) in
     let whole = ended ks d 0 from (suc k) e r.0 inner (rest_closed ks d 0 e r.0 sign.RightParen right_paren c) in
     rw (fits, deep_closed ks from (expr (suc k) e) (sign_mark k sign.RightParen) r.0 r.1 fits)
-        (read_front ks d m n e' (first_deep from (expr (suc k) e)) (Absolute at e) refl
-        (absolute_front ks (read ks d) n at e (first_deep from (expr (suc k) e)) r.0 e' s.0 s.1 s.2.0 whole c r.2.2))
+    (read_front ks d m n e' (first_deep from (expr (suc k) e)) (Absolute at e) refl
+    (absolute_front ks (read ks d) n at e (first_deep from (expr (suc k) e)) r.0 e' s.0 s.1 s.2.0 whole c r.2.2))

@@ -79,22 +79,22 @@ module _ (ks : List Kind) (f k d : ℕ) (room : suc k + d ≡ 65) (before : k �
       by_const true o = absurd o
       by_const false o =
           declr_plain ks d x n (ident_is ks x n s.0 s.1) (sep_assign ks (suc n) (subst (SepAt ks) (sym s.2) h))
-              (sep_bracket ks (suc n) (subst (SepAt ks) (sym s.2) h)) ∙ ap (λ (z : ℕ). Ok (Plain x, z)) s.2
-              ∙ ap (λ z. after z (Ok (Plain x, e))) (sym (mark_shallow n (ident_mark k x) fits))
+          (sep_bracket ks (suc n) (subst (SepAt ks) (sym s.2) h)) ∙ ap (λ (z : ℕ). Ok (Plain x, z)) s.2
+          ∙ ap (λ z. after z (Ok (Plain x, e))) (sym (mark_shallow n (ident_mark k x) fits))
   declr_complete (Init x v) n e o s h =
       let inner = (expr_exact ks k k d room (omega arith)).complete v (suc (suc n)) e o s.2.2 (sep_closed ks e h) in
       declr_init ks d c x n e v (first_deep (suc (suc n)) (expr (suc k) v)) (ident_is ks x n s.0 s.1) s.2.0 inner
-          ∙ ap (λ z. after z (Ok (Init x v, e)))
-          (sym (deep_over n (ident_mark k x) (sign_mark k sg.Assign ∷ expr (suc k) v) fits
-          ∙ deep_over (suc n) (sign_mark k sg.Assign) (expr (suc k) v) fits))
+      ∙ ap (λ z. after z (Ok (Init x v, e)))
+      (sym (deep_over n (ident_mark k x) (sign_mark k sg.Assign ∷ expr (suc k) v) fits
+      ∙ deep_over (suc n) (sign_mark k sg.Assign) (expr (suc k) v) fits))
   declr_complete (Array x m) n e o s h = by_const c o
     where
       by_const : (c : Bool) → IsDeclr c (Array x m) → declr_at ks d c n ≡ after (first_deep n (declr k (Array x m))) (Ok (Array x m, e))
       by_const true o = absurd o
       by_const false o =
           declr_array ks d x n m (ident_is ks x n s.0 s.1) s.2.0 (number_is ks m (suc (suc n)) s.2.2.0 s.2.2.1)
-              (sign_at_is ks sg.RightBracket (suc (suc (suc n))) s.2.2.2.0) ∙ ap (λ (z : ℕ). Ok (Array x m, z)) s.2.2.2.2
-              ∙ ap (λ z. after z (Ok (Array x m, e))) (sym (array_deep x m n))
+          (sign_at_is ks sg.RightBracket (suc (suc (suc n))) s.2.2.2.0) ∙ ap (λ (z : ℕ). Ok (Array x m, z)) s.2.2.2.2
+          ∙ ap (λ z. after z (Ok (Array x m, e))) (sym (array_deep x m n))
 
   unset_sound : (c : Bool) (x : Ident) (n j : ℕ) (y : DeclrTree × ℕ) → slice_get ks n ≡ Some (kind.Name x.name) → x.at ≡ n → suc n ≡ j
       → unset ks c x j ≡ Ok y → Found ks (IsDeclr c) (declr k) Free n y.0 y.1
@@ -111,8 +111,8 @@ module _ (ks : List Kind) (f k d : ℕ) (room : suc k + d ≡ 65) (before : k �
           let g = sign_at_ok ks sg.RightBracket v.0.1 b.0 b.1 in
           let bracket : slice_get ks (suc n) ≡ Some (kind.Sign sg.LeftBracket) = ap (slice_get ks) i ∙ sign_found sg.LeftBracket (slice_get ks j) t in
           let rest : Spans ks (suc (suc n)) (figure k v.0.0 ∷ sign_mark k sg.RightBracket ∷ []) b.0 =
-              subst (λ z. Spans ks (suc z) (figure k v.0.0 ∷ sign_mark k sg.RightBracket ∷ []) b.0) (sym i)
-              (q.0, q.1, subst (λ z. Spans ks z (sign_mark k sg.RightBracket ∷ []) b.0) (sym q.2) (g.0, tt, sym g.1)) in
+          subst (λ z. Spans ks (suc z) (figure k v.0.0 ∷ sign_mark k sg.RightBracket ∷ []) b.0) (sym i)
+          (q.0, q.1, subst (λ z. Spans ks z (sign_mark k sg.RightBracket ∷ []) b.0) (sym q.2) (g.0, tt, sym g.1)) in
           let made_ : Found ks (IsDeclr false) (declr k) Free n (Array x v.0.0) b.0 = record {
             valid = tt;
             spans = (s, a, (bracket, tt, rest));
@@ -223,16 +223,20 @@ module _ (ks : List Kind) (f k d : ℕ) (room : suc k + d ≡ 65) (before : k �
       let s' = subst (λ z. Spans ks (suc n) z e) same s.2 in
       let bound = spans_within ks n (named_word k wd.Int v.at) (row k (declr k) sg.Semicolon v.declrs) e (s.0, s.1, s') in
       let inner = separated_complete ks f 1 k (IsDeclr c) (declr k) (λ x e. SepAt ks e) Free (declr_at ks d c) sg.Semicolon declr_exact fits
-          refl (λ a n h. inl h) (λ a n h. inr h) v.declrs (length ks) (suc n) e o
-          (omega (arith, spans_end ks (suc n) (row k (declr k) sg.Semicolon v.declrs) e s',
-          length-append (commas k (each (declr k) v.declrs)) (sign_mark k sg.Semicolon ∷ []), commas_long v.declrs)) (are_valid v.declrs g)
-          s' in
+      refl (λ a n h. inl h) (λ a n h. inr h) v.declrs (length ks) (suc n) e o
+      (omega (
+        arith,
+        spans_end ks (suc n) (row k (declr k) sg.Semicolon v.declrs) e s',
+        length-append (commas k (each (declr k) v.declrs)) (sign_mark k sg.Semicolon ∷ []),
+        commas_long v.declrs,
+      )) (are_valid v.declrs g)
+      s' in
       let made_ = behind_is n e v.at v.declrs (first_deep (suc n) (row k (declr k) sg.Semicolon v.declrs)) (word_at_is ks wd.Int n s.0) inner s.1 in
       made_ ∙ ap (λ (z : Bool). after (first_deep (suc n) (row k (declr k) sg.Semicolon v.declrs))
-          (Ok (record { is_const = z; at = v.at; declrs = v.declrs }, e))) (sym i)
-          ∙ ap (λ z. after z (Ok (v, e)))
-          (sym (deep_over n (named_word k wd.Int v.at) (commas k (declrs k v.declrs) ++ sign_mark k sg.Semicolon ∷ []) fits
-          ∙ ap (first_deep (suc n)) same))
+      (Ok (record { is_const = z; at = v.at; declrs = v.declrs }, e))) (sym i)
+      ∙ ap (λ z. after z (Ok (v, e)))
+      (sym (deep_over n (named_word k wd.Int v.at) (commas k (declrs k v.declrs) ++ sign_mark k sg.Semicolon ∷ []) fits
+      ∙ ap (first_deep (suc n)) same))
 
   pub behind_sound : (n : ℕ) (y : DeclarationTree × ℕ) → declaration_behind ks d c n ≡ Ok y → (y.0.is_const ≡ c)
       × ((y.0.declrs ≢ []) × (AreDeclrs c y.0.declrs × (Spans ks n (tail_of k y.0) y.1 × (first_deep n (tail_of k y.0) ≡ None))))
@@ -242,20 +246,29 @@ module _ (ks : List Kind) (f k d : ℕ) (room : suc k + d ≡ 65) (before : k �
       let w = word_at_ok ks wd.Int n m.0 m.1 in
       let xs = bind_ok (separated ks (declr_at ks d c) sg.Semicolon (length ks) m.0) _ y m.2 in
       let r : Separated ks k (IsDeclr c) (declr k) sg.Semicolon (suc n) xs.0.0 xs.0.1 =
-          subst (λ z. Separated ks k (IsDeclr c) (declr k) sg.Semicolon z xs.0.0 xs.0.1) w.1
-          (separated_sound ks f 1 k (IsDeclr c) (declr k) (λ x e. SepAt ks e) Free (declr_at ks d c) sg.Semicolon declr_exact fits refl
-          (λ a n h. inl h) (λ a n h. inr h) (length ks) m.0 xs.0 xs.1) in
+      subst (λ z. Separated ks k (IsDeclr c) (declr k) sg.Semicolon z xs.0.0 xs.0.1) w.1
+      (separated_sound ks f 1 k (IsDeclr c) (declr k) (λ x e. SepAt ks e) Free (declr_at ks d c) sg.Semicolon declr_exact fits refl
+      (λ a n h. inl h) (λ a n h. inr h) (length ks) m.0 xs.0 xs.1) in
       let same : row k (declr k) sg.Semicolon xs.0.0 ≡ commas k (declrs k xs.0.0) ++ sign_mark k sg.Semicolon ∷ [] = ap (λ z. commas k z ++ sign_mark k sg.Semicolon ∷ []) (sym (declrs_are xs.0.0)) in
       let made_ : (c ≡ c) × ((xs.0.0 ≢ []) ×
-          (AreDeclrs c xs.0.0 × (Spans ks n (tail_of k (record { is_const = c; at = n; declrs = xs.0.0 })) xs.0.1
-          × (first_deep n (tail_of k (record { is_const = c; at = n; declrs = xs.0.0 })) ≡ None)))) =
-          (refl, (r.some, (valid_are xs.0.0 r.valid,
-          ((w.0, refl, subst (λ z. Spans ks (suc n) z xs.0.1) same r.spans),
-          deep_over n (named_word k wd.Int n) (commas k (declrs k xs.0.0) ++ sign_mark k sg.Semicolon ∷ []) fits
-          ∙ ap (first_deep (suc n)) (sym same) ∙ r.shallow)))) in
+      (AreDeclrs c xs.0.0 × (Spans ks n (tail_of k (record { is_const = c; at = n; declrs = xs.0.0 })) xs.0.1
+      × (first_deep n (tail_of k (record { is_const = c; at = n; declrs = xs.0.0 })) ≡ None)))) = (
+        refl,
+        (
+          r.some,
+          (
+            valid_are xs.0.0 r.valid,
+            (
+              (w.0, refl, subst (λ z. Spans ks (suc n) z xs.0.1) same r.spans),
+              deep_over n (named_word k wd.Int n) (commas k (declrs k xs.0.0) ++ sign_mark k sg.Semicolon ∷ []) fits
+                  ∙ ap (first_deep (suc n)) (sym same) ∙ r.shallow,
+            ),
+          ),
+        ),
+      ) in
       subst (λ (w : DeclarationTree × ℕ). (w.0.is_const ≡ c)
-          × ((w.0.declrs ≢ []) × (AreDeclrs c w.0.declrs × (Spans ks n (tail_of k w.0) w.1 × (first_deep n (tail_of k w.0) ≡ None)))))
-          (ok_one (record { is_const = c; at = n; declrs = xs.0.0 }, xs.0.1) y xs.2) made_
+      × ((w.0.declrs ≢ []) × (AreDeclrs c w.0.declrs × (Spans ks n (tail_of k w.0) w.1 × (first_deep n (tail_of k w.0) ≡ None)))))
+      (ok_one (record { is_const = c; at = n; declrs = xs.0.0 }, xs.0.1) y xs.2) made_
 
   pub behind_far : (n q : ℕ) → f ≤ n → declaration_behind ks d c n ≡ Err (TooDeep q) → 64 ≤ q
   unfolding declaration_behind
@@ -263,8 +276,8 @@ module _ (ks : List Kind) (f k d : ℕ) (room : suc k + d ≡ 65) (before : k �
       far_bind (word_at ks wd.Int n) _ q h (word_far ks wd.Int n q) (λ m r g.
       (let w = word_at_ok ks wd.Int n m r in
       far_bind (separated ks (declr_at ks d c) sg.Semicolon (length ks) m) _ q g
-          (separated_far ks f 1 k (IsDeclr c) (declr k) (λ x e. SepAt ks e) Free (declr_at ks d c) sg.Semicolon declr_exact fits refl
-          (λ a n h. inl h) (λ a n h. inr h) (length ks) m q (omega (arith, w.1))) (λ x r g. cc)))
+      (separated_far ks f 1 k (IsDeclr c) (declr k) (λ x e. SepAt ks e) Free (declr_at ks d c) sg.Semicolon declr_exact fits refl
+      (λ a n h. inl h) (λ a n h. inr h) (length ks) m q (omega (arith, w.1))) (λ x r g. cc)))
 
 at_const : (ks : List Kind) (d n : ℕ) → slice_get ks n ≡ Some (kind.Word wd.Const) → declaration_at ks d n ≡ declaration_behind ks d true (suc n)
 unfolding declaration_at
@@ -287,8 +300,8 @@ module _ (ks : List Kind) (f k d : ℕ) (room : suc k + d ≡ 65) (before : k �
       by_const : (c : Bool) → v.is_const ≡ c → AreDeclrs c v.declrs → Spans ks n (word_if c k wd.Const ++ tail_of k v) e → declaration_at ks d n ≡ after (first_deep n (vars k v)) (Ok (v, e))
       by_const true i g s =
           at_const ks d n s.0 ∙ behind_complete ks f k d room before true v (suc n) e i o.0 g s.2
-              ∙ ap (λ z. after z (Ok (v, e)))
-              (sym (ap (first_deep n) (vars_by k v true i) ∙ deep_over n (Rattle.c_tree.specs.Print.word_at k wd.Const) (tail_of k v) high))
+          ∙ ap (λ z. after z (Ok (v, e)))
+          (sym (ap (first_deep n) (vars_by k v true i) ∙ deep_over n (Rattle.c_tree.specs.Print.word_at k wd.Const) (tail_of k v) high))
       by_const false i g s =
           at_int ks d n (rw s.0 refl) ∙ behind_complete ks f k d room before false v n e i o.0 g s ∙ ap (λ z. after z (Ok (v, e))) (sym (ap (first_deep n) (vars_by k v false i)))
 

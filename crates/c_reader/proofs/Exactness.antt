@@ -358,5 +358,5 @@ pub flat : (ks : List Kind) {A B : Type 0} {from size more : ℕ} {marksA : A �
     → Exact ks from (size + more) Any (λ v. marksA v.0 ++ marksB v.1) Free Free (both p q)
 flat ks {from = from} {size = size} x y =
     turned_exact ks from (omega arith) (λ v o. (tt, tt)) (λ v o. tt) (λ v e h. tt) (λ v e h. tt)
-        (both_exact ks from size _ _ _ _ _ _ _ _ _ _ _ x
-        (turned_exact ks (from + size) (omega arith) (λ v o. o) (λ v o. o) (λ v e h. h) (λ v e h. h) y) (λ a b j e o s. tt))
+    (both_exact ks from size _ _ _ _ _ _ _ _ _ _ _ x
+    (turned_exact ks (from + size) (omega arith) (λ v o. o) (λ v o. o) (λ v e h. h) (λ v e h. h) y) (λ a b j e o s. tt))

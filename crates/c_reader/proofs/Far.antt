@@ -71,7 +71,7 @@ module _ (ks : List Kind) (rec : Rec) (k : ℕ) (finds : Finds ks (suc k) rec) (
       by_test : (t : Bool) → cond t indexed plain ≡ Err (TooDeep p) → 64 ≤ p
       by_test true h =
           far_bind (rec 0 (suc (suc n))) _ p h (far 0 (suc (suc n)) p zero-le (omega arith))
-              (λ i r g. far_bind (sign_at ks sign.RightBracket i.1) _ p g (sign_far ks sign.RightBracket i.1 p) (λ e q w. cc))
+          (λ i r g. far_bind (sign_at ks sign.RightBracket i.1) _ p g (sign_far ks sign.RightBracket i.1 p) (λ e q w. cc))
       by_test false h = cc
 
   named_far : (n p : ℕ) (o : Option Kind) → ◌>>=◌ {B = ExprTree × ℕ} (name_in o (suc n)) (λ x. Ok (Deref n (record { name = x; at = suc n }), suc (suc n))) ≡ Err (TooDeep p) → 64 ≤ p
@@ -142,8 +142,8 @@ module _ (ks : List Kind) (rec : Rec) (k d : ℕ) (finds : Finds ks (suc k) rec)
       chain_more go next (Some op) o g =
           let past = whole_end ks s k l n h.whole in
           far_bind (rec (suc (level_of op)) (suc n)) _ p g
-              (far (suc (level_of op)) (suc n) p (omega (arith, (level_bounds op).1)) (omega arith))
-              (λ x r w. next x op (held_more ks rec k d finds room m s l n op x (omega (arith, b)) h o r) w)
+          (far (suc (level_of op)) (suc n) p (omega (arith, (level_bounds op).1)) (omega arith))
+          (λ x r w. next x op (held_more ks rec k d finds room m s l n op x (omega (arith, b)) h o r) w)
 
   choice_far : (m n : ℕ) (l : ExprTree) (p : ℕ) → k ≤ suc n → choice ks rec m l n ≡ Err (TooDeep p) → 64 ≤ p
   unfolding choice

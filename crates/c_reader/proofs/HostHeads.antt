@@ -32,12 +32,12 @@ pub front_exact : (ks : List Kind) (f k d : ℕ) → suc k + d ≡ 65 → k ≤ 
 front_exact ks f k d room before =
     let l = level_fits k d (omega arith) in
     then_exact ks {from' = f + 1} (omega arith) (marked_exact ks f k wd.For l)
-        (then_exact ks {from' = f + 1} (omega arith) (sign_exact ks (f + 1) k sg.LeftParen l)
-        (then_exact ks {from' = f + 1} (omega arith) (word_exact ks (f + 1) k wd.Int l)
-        (then_exact ks {from' = f + 1} (omega arith) (ident_exact ks (f + 1) k l)
-        (then_exact ks {from' = f + 1} (omega arith) (sign_exact ks (f + 1) k sg.Assign l)
-        (needy_then ks (omega arith) (expr_exact ks (f + 1) k d room before) (sign_exact ks (f + 1) k sg.Semicolon l)
-        (λ a b j e s. (sg.Semicolon, semicolon, s.0)))))))
+    (then_exact ks {from' = f + 1} (omega arith) (sign_exact ks (f + 1) k sg.LeftParen l)
+    (then_exact ks {from' = f + 1} (omega arith) (word_exact ks (f + 1) k wd.Int l)
+    (then_exact ks {from' = f + 1} (omega arith) (ident_exact ks (f + 1) k l)
+    (then_exact ks {from' = f + 1} (omega arith) (sign_exact ks (f + 1) k sg.Assign l)
+    (needy_then ks (omega arith) (expr_exact ks (f + 1) k d room before) (sign_exact ks (f + 1) k sg.Semicolon l)
+    (λ a b j e s. (sg.Semicolon, semicolon, s.0)))))))
 
 pub behind_exact : (ks : List Kind) (f k d : ℕ) (x : Ident) → suc k + d ≡ 65 → k ≤ f + 1
     → Exact ks f 7 (λ v. (v.0.name ≡ x.name) × ((IsGrouped v.1.1.0) × (v.1.1.1.1.0.name ≡ x.name)))
@@ -45,12 +45,12 @@ pub behind_exact : (ks : List Kind) (f k d : ℕ) (x : Ident) → suc k + d ≡ 
 behind_exact ks f k d x room before =
     let l = level_fits k d (omega arith) in
     both_exact ks f 1 _ _ _ _ _ _ _ _ _ _ _ (same_exact ks f k x l)
-        (then_exact ks {from' = f + 1} (omega arith) (sign_exact ks (f + 1) k sg.Less l)
-        (both_exact ks (f + 1) 1 _ _ _ _ _ _ _ _ _ _ _ (expr_exact ks (f + 1) k d room before)
-        (then_exact ks {from' = f + 1} (omega arith) (sign_exact ks (f + 1 + 1) k sg.Semicolon l)
-        (needy_then ks (omega arith) (same_exact ks (f + 1) k x l)
-        (flat ks (sign_exact ks (f + 1) k sg.PlusPlus l) (sign_exact ks (f + 1) k sg.RightParen l)) (λ a b j e s. tt)))
-        (λ a b j e o s. (sg.Semicolon, semicolon, s.0)))) (λ a b j e o s. tt)
+    (then_exact ks {from' = f + 1} (omega arith) (sign_exact ks (f + 1) k sg.Less l)
+    (both_exact ks (f + 1) 1 _ _ _ _ _ _ _ _ _ _ _ (expr_exact ks (f + 1) k d room before)
+    (then_exact ks {from' = f + 1} (omega arith) (sign_exact ks (f + 1 + 1) k sg.Semicolon l)
+    (needy_then ks (omega arith) (same_exact ks (f + 1) k x l)
+    (flat ks (sign_exact ks (f + 1) k sg.PlusPlus l) (sign_exact ks (f + 1) k sg.RightParen l)) (λ a b j e s. tt)))
+    (λ a b j e o s. (sg.Semicolon, semicolon, s.0)))) (λ a b j e o s. tt)
 
 pub for_is : (ks : List Kind) (d n j e at : ℕ) (x y z : Ident) (a b : ExprTree) (p q : Option ℕ)
     → for_front ks d n ≡ after p (Ok ((at, (tt, (tt, (x, (tt, (a, tt)))))), j))
@@ -64,7 +64,7 @@ for_is ks d n j e at x y z a b (Some p) q h g = rw h refl
 pub header_row : (k : ℕ) (h : HostForHeaderTree) → host_counter k h ≡ front_marks k h.at h.name h.from ++ behind_marks k h.tested h.to h.stepped
 header_row k h =
     ap (λ z. named_word k wd.For h.at ∷ sign_mark k sg.LeftParen ∷ word_mark k wd.Int ∷ ident_mark k h.name ∷ sign_mark k sg.Assign ∷ z)
-        (sym (append_assoc (expr (suc k) h.from) (sign_mark k sg.Semicolon ∷ []) (behind_marks k h.tested h.to h.stepped)))
+    (sym (append_assoc (expr (suc k) h.from) (sign_mark k sg.Semicolon ∷ []) (behind_marks k h.tested h.to h.stepped)))
 
 pub header_complete : (ks : List Kind) (f k d : ℕ) → suc k + d ≡ 65 → k ≤ f + 1 → (h : HostForHeaderTree) (n e : ℕ) → IsHostForHeader h
     → Spans ks n (host_counter k h) e → for_header_at ks d n ≡ after (first_deep n (host_counter k h)) (Ok (h, e))
@@ -73,9 +73,9 @@ header_complete ks f k d room before h n e o s =
     let back = behind_marks k h.tested h.to h.stepped in
     let r = spans_split ks n front back e (subst (λ z. Spans ks n z e) (header_row k h) s) in
     for_is ks d n r.0 e h.at h.name h.tested h.stepped h.from h.to (first_deep n front) (first_deep r.0 back)
-        ((front_exact ks f k d room before).complete (h.at, (tt, (tt, (h.name, (tt, (h.from, tt)))))) n r.0 o.2 r.1 tt)
-        ((behind_exact ks f k d h.name room before).complete (h.tested, (tt, (h.to, (tt, (h.stepped, (tt, tt)))))) r.0 e (o.0, (o.3, o.1))
-        r.2 tt) ∙ ap (λ z. after z (Ok (h, e))) (sym (ap (first_deep n) (header_row k h) ∙ deep_split ks n front back r.0 r.1))
+    ((front_exact ks f k d room before).complete (h.at, (tt, (tt, (h.name, (tt, (h.from, tt)))))) n r.0 o.2 r.1 tt)
+    ((behind_exact ks f k d h.name room before).complete (h.tested, (tt, (h.to, (tt, (h.stepped, (tt, tt)))))) r.0 e (o.0, (o.3, o.1))
+    r.2 tt) ∙ ap (λ z. after z (Ok (h, e))) (sym (ap (first_deep n) (header_row k h) ∙ deep_split ks n front back r.0 r.1))
 
 pub header_sound : (ks : List Kind) (f k d : ℕ) → suc k + d ≡ 65 → k ≤ f + 1 → (n : ℕ) (y : HostForHeaderTree × ℕ)
     → for_header_at ks d n ≡ Ok y → Found ks IsHostForHeader (host_counter k) Free n y.0 y.1

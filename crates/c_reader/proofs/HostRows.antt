@@ -142,9 +142,13 @@ module _ (ks : List Kind) (f k d : ℕ) (room : suc k + d ≡ 65) (before : k �
       host_some (HostBlock at ss) = omega arith
       host_some (HostEmpty at) = omega arith
       host_some (HostAssign a) =
-          omega (arith, place_some a.place, length-append (place (suc k) a.place)
-              (named_sign (suc k) (Rattle.c_tree.specs.Signs.assign_sign_of a.op) a.at
-              ∷ (expr (suc (suc k)) a.value ++ sign_mark (suc k) sg.Semicolon ∷ [])))
+          omega (
+            arith,
+            place_some a.place,
+            length-append (place (suc k) a.place)
+                (named_sign (suc k) (Rattle.c_tree.specs.Signs.assign_sign_of a.op) a.at
+                ∷ (expr (suc (suc k)) a.value ++ sign_mark (suc k) sg.Semicolon ∷ [])),
+          )
       host_some (HostIf at c t) = omega arith
       host_some (HostIfElse at c t u) = omega arith
       host_some (HostFor c t) = omega arith
@@ -161,9 +165,9 @@ module _ (ks : List Kind) (f k d : ℕ) (room : suc k + d ≡ 65) (before : k �
       let s' = subst (λ z. Spans ks n z e) (hosts_joined (suc k) ss) s in
       let valid = valid_list ss o in
       until_complete ks (f + 1) IsHost (host (suc k)) (Needs ks) (Needs ks) rec x (is_closed ks c) (NoElse ks)
-          (λ a n e more o s. (let r = host_begins ks (suc k) n e a more o s in (r.no_close c, r.no_else))) (λ n h. close_else c n h)
-          (λ a n h u. h) (list_of ss) (length ks) n e (omega (arith, hosts_long (list_of ss) n e valid s', slice_get_within ks e t h)) valid
-          s' i ∙ ap (λ z. after z (Ok (list_of ss, e))) (ap (first_deep n) (sym (hosts_joined (suc k) ss)))
+      (λ a n e more o s. (let r = host_begins ks (suc k) n e a more o s in (r.no_close c, r.no_else))) (λ n h. close_else c n h)
+      (λ a n h u. h) (list_of ss) (length ks) n e (omega (arith, hosts_long (list_of ss) n e valid s', slice_get_within ks e t h)) valid
+      s' i ∙ ap (λ z. after z (Ok (list_of ss, e))) (ap (first_deep n) (sym (hosts_joined (suc k) ss)))
 
   pub block_sound : (c : Closing) (n : ℕ) (y : List HostTree × ℕ) → hosts_in ks c rec n ≡ Ok y → AreHosts (host_trees y.0)
       × (Spans ks n (hosts (suc k) (host_trees y.0)) y.1 × (first_deep n (hosts (suc k) (host_trees y.0)) ≡ None))
@@ -183,13 +187,13 @@ module _ (ks : List Kind) (f k d : ℕ) (room : suc k + d ≡ 65) (before : k �
       let rb = sign_mark k sg.RightBrace in
       let r = spans_split ks (suc n) (hosts (suc k) ss) (rb ∷ []) e s.2 in
       block_is ks d rec n at r.0 (list_of ss) (first_deep (suc n) (hosts (suc k) ss)) (sign_at_is ks sg.LeftBrace n s.0)
-          (block_complete closing.Brace (kind.Sign sg.RightBrace) ss (suc n) r.0 o r.1 r.2.0 (rw r.2.0 refl))
-          (sign_at_is ks sg.RightBrace r.0 r.2.0) s.1 ∙ ap
-          (λ z. after (first_deep (suc n) (hosts (suc k) ss)) (Ok (HostBlock at z, suc r.0))) (trees_list ss)
-          ∙ ap (λ (z : ℕ). after (first_deep (suc n) (hosts (suc k) ss)) (Ok (HostBlock at ss, z))) r.2.2
-          ∙ ap (λ z. after z (Ok (HostBlock at ss, e)))
-          (sym (deep_over n (named_sign k sg.LeftBrace at) (hosts (suc k) ss ++ rb ∷ []) fits
-          ∙ deep_closed ks (suc n) (hosts (suc k) ss) rb r.0 r.1 fits))
+      (block_complete closing.Brace (kind.Sign sg.RightBrace) ss (suc n) r.0 o r.1 r.2.0 (rw r.2.0 refl))
+      (sign_at_is ks sg.RightBrace r.0 r.2.0) s.1 ∙ ap
+      (λ z. after (first_deep (suc n) (hosts (suc k) ss)) (Ok (HostBlock at z, suc r.0))) (trees_list ss)
+      ∙ ap (λ (z : ℕ). after (first_deep (suc n) (hosts (suc k) ss)) (Ok (HostBlock at ss, z))) r.2.2
+      ∙ ap (λ z. after z (Ok (HostBlock at ss, e)))
+      (sym (deep_over n (named_sign k sg.LeftBrace at) (hosts (suc k) ss ++ rb ∷ []) fits
+      ∙ deep_closed ks (suc n) (hosts (suc k) ss) rb r.0 r.1 fits))
   led_complete (HostEmpty at) n e o s h =
       let deep : first_deep n (host k (HostEmpty at)) ≡ None = deep_over n (named_sign k sg.Semicolon at) [] fits in
       rw (sign_at_is ks sg.Semicolon n s.0, deep) (ap (λ (z : ℕ). Ok (HostEmpty z, suc n)) (sym s.1) ∙ ap (λ (z : ℕ). Ok (HostEmpty at, z)) s.2)
@@ -200,7 +204,7 @@ module _ (ks : List Kind) (f k d : ℕ) (room : suc k + d ≡ 65) (before : k �
       let one = condition_complete ks f k d room before at c n r.0 o.0 r.1 in
       let two = body_complete t r.0 e o.1 o.2 r.2 (λ z. h refl) in
       if_one ks d rec n at r.0 e c t (first_deep n (condition k at c)) (first_deep r.0 (host (suc k) t)) one two (h refl) s.1
-          ∙ ap (λ z. after z (Ok (HostIf at c t, e))) (sym (deep_split ks n (condition k at c) (host (suc k) t) r.0 r.1))
+      ∙ ap (λ z. after z (Ok (HostIf at c t, e))) (sym (deep_split ks n (condition k at c) (host (suc k) t) r.0 r.1))
   led_complete (HostIfElse at c t u) n e o s h =
       let tail = host (suc k) t ++ (word_mark k wd.Else ∷ host (suc k) u) in
       let r = spans_split ks n (condition k at c) tail e s in
@@ -209,16 +213,16 @@ module _ (ks : List Kind) (f k d : ℕ) (room : suc k + d ≡ 65) (before : k �
       let two = body_complete t r.0 q.0 o.1 o.2 q.1 (λ z. absurd (true≢false (sym z ∙ o.3))) in
       let three = body_complete u (suc q.0) e o.4 o.5 q.2.2 (λ z. h z) in
       if_both ks d rec n at r.0 q.0 e c t u (first_deep n (condition k at c)) (first_deep r.0 (host (suc k) t))
-          (first_deep (suc q.0) (host (suc k) u)) one two q.2.0 three s.1
-          ∙ ap (λ z. after z (Ok (HostIfElse at c t u, e)))
-          (sym (deep_split ks n (condition k at c) tail r.0 r.1
-          ∙ ap (or_else (first_deep n (condition k at c)))
-          (deep_between ks r.0 (host (suc k) t) (word_mark k wd.Else) (host (suc k) u) q.0 q.1 fits)))
+      (first_deep (suc q.0) (host (suc k) u)) one two q.2.0 three s.1
+      ∙ ap (λ z. after z (Ok (HostIfElse at c t u, e)))
+      (sym (deep_split ks n (condition k at c) tail r.0 r.1
+      ∙ ap (or_else (first_deep n (condition k at c)))
+      (deep_between ks r.0 (host (suc k) t) (word_mark k wd.Else) (host (suc k) u) q.0 q.1 fits)))
   led_complete (HostFor c t) n e o s h =
       let r = spans_split ks n (host_counter k c) (host (suc k) t) e s in
       for_led ks d rec n r.0 e c t (first_deep n (host_counter k c)) (first_deep r.0 (host (suc k) t))
-          (header_complete ks f k d room before c n r.0 o.0 r.1) (body_complete t r.0 e o.1 o.2 r.2 (λ z. h z))
-          ∙ ap (λ z. after z (Ok (HostFor c t, e))) (sym (deep_split ks n (host_counter k c) (host (suc k) t) r.0 r.1))
+      (header_complete ks f k d room before c n r.0 o.0 r.1) (body_complete t r.0 e o.1 o.2 r.2 (λ z. h z))
+      ∙ ap (λ z. after z (Ok (HostFor c t, e))) (sym (deep_split ks n (host_counter k c) (host (suc k) t) r.0 r.1))
   led_complete (HostCall c) n e o s h =
       made_complete HostCall (call_at ks d (call_lead c)) n e c (first_deep n (call k c)) (call_complete ks f k d room before c n e o s)
 
@@ -282,10 +286,10 @@ module _ (ks : List Kind) (f k d : ℕ) (room : suc k + d ≡ 65) (before : k �
       let g = sign_at_ok ks sg.LeftBrace n o.0 o.1 in
       let u = sign_at_ok ks sg.RightBrace b.0.1 c.0 c.1 in
       let r : AreHosts (host_trees b.0.0) ×
-          (Spans ks (suc n) (hosts (suc k) (host_trees b.0.0)) b.0.1 × (first_deep (suc n) (hosts (suc k) (host_trees b.0.0)) ≡ None)) =
-          subst (λ z. AreHosts (host_trees b.0.0) ×
-          (Spans ks z (hosts (suc k) (host_trees b.0.0)) b.0.1 × (first_deep z (hosts (suc k) (host_trees b.0.0)) ≡ None))) g.1
-          (block_sound closing.Brace o.0 b.0 b.1) in
+      (Spans ks (suc n) (hosts (suc k) (host_trees b.0.0)) b.0.1 × (first_deep (suc n) (hosts (suc k) (host_trees b.0.0)) ≡ None)) =
+      subst (λ z. AreHosts (host_trees b.0.0) ×
+      (Spans ks z (hosts (suc k) (host_trees b.0.0)) b.0.1 × (first_deep z (hosts (suc k) (host_trees b.0.0)) ≡ None))) g.1
+      (block_sound closing.Brace o.0 b.0 b.1) in
       let rb = sign_mark k sg.RightBrace in
       let made_ : FoundAt n (HostBlock n (host_trees b.0.0), c.0) = record {
         valid = r.0;
@@ -345,7 +349,7 @@ module _ (ks : List Kind) (f k d : ℕ) (room : suc k + d ≡ 65) (before : k �
       far_bind (sign_at ks sg.LeftBrace n) _ q h (sign_far ks sg.LeftBrace n q) (λ o r g.
       (let i = sign_at_ok ks sg.LeftBrace n o r in
       far_bind (hosts_in ks closing.Brace rec o) _ q g (block_far closing.Brace o q (omega (arith, i.1)))
-          (λ b r g. far_bind (sign_at ks sg.RightBrace b.1) _ q g (sign_far ks sg.RightBrace b.1 q) (λ e r g. cc))))
+      (λ b r g. far_bind (sign_at ks sg.RightBrace b.1) _ q g (sign_far ks sg.RightBrace b.1 q) (λ e r g. cc))))
   led_far lead.Empty n q l h = far_bind (sign_at ks sg.Semicolon n) _ q h (sign_far ks sg.Semicolon n q) (λ e r g. cc)
   led_far lead.Assignment n q l h = far_bind (assignment_at ks d n) _ q h (assignment_far ks f k d room before n q l) (λ v r g. cc)
   led_far lead.If n q l h = if_far n q l h
@@ -372,8 +376,12 @@ module _ (ks : List Kind) (f k d : ℕ) (room : suc k + d ≡ 65) (before : k �
       host_some (HostBlock at ss) = omega arith
       host_some (HostEmpty at) = omega arith
       host_some (HostAssign a) =
-          omega (arith, place_some a.place, length-append (place k a.place)
-              (named_sign k (Rattle.c_tree.specs.Signs.assign_sign_of a.op) a.at ∷ (expr (suc k) a.value ++ sign_mark k sg.Semicolon ∷ [])))
+          omega (
+            arith,
+            place_some a.place,
+            length-append (place k a.place)
+                (named_sign k (Rattle.c_tree.specs.Signs.assign_sign_of a.op) a.at ∷ (expr (suc k) a.value ++ sign_mark k sg.Semicolon ∷ [])),
+          )
       host_some (HostIf at c t) = omega arith
       host_some (HostIfElse at c t u) = omega arith
       host_some (HostFor c t) = omega arith

@@ -24,29 +24,29 @@ dat_exact : (ks : List Kind) (from k : ℕ) → nat_lt 64 k ≡ false
     v.1.1.1.1.1.1.1.1.1.1.1.1.0.1)) Free Free (dat_row ks)
 dat_exact ks f k l =
     flat ks (marked_exact ks f k wd.OpArgDat l)
-        (flat ks (sign_exact ks f k sg.LeftParen l)
-        (flat ks (ident_exact ks f k l)
-        (flat ks (sign_exact ks f k sg.Comma l)
-        (flat ks (index_exact ks f k l)
-        (flat ks (sign_exact ks f k sg.Comma l)
-        (flat ks (via_exact ks f k l) (flat ks (sign_exact ks f k sg.Comma l)
-        (flat ks (number_exact ks f k l)
-        (flat ks (sign_exact ks f k sg.Comma l)
-        (flat ks (text_exact ks f k l) (flat ks (sign_exact ks f k sg.Comma l)
-        (flat ks (access_exact ks f k l) (sign_exact ks f k sg.RightParen l)))))))))))))
+    (flat ks (sign_exact ks f k sg.LeftParen l)
+    (flat ks (ident_exact ks f k l)
+    (flat ks (sign_exact ks f k sg.Comma l)
+    (flat ks (index_exact ks f k l)
+    (flat ks (sign_exact ks f k sg.Comma l)
+    (flat ks (via_exact ks f k l) (flat ks (sign_exact ks f k sg.Comma l)
+    (flat ks (number_exact ks f k l)
+    (flat ks (sign_exact ks f k sg.Comma l)
+    (flat ks (text_exact ks f k l) (flat ks (sign_exact ks f k sg.Comma l)
+    (flat ks (access_exact ks f k l) (sign_exact ks f k sg.RightParen l)))))))))))))
 
 gbl_exact : (ks : List Kind) (from k : ℕ) → nat_lt 64 k ≡ false
     → Exact ks from 10 Any (λ v. argument k
     (arg.Global v.0 v.1.1.0 v.1.1.1.1.0 v.1.1.1.1.1.1.0 v.1.1.1.1.1.1.1.1.0.0 v.1.1.1.1.1.1.1.1.0.1)) Free Free (global_row ks)
 gbl_exact ks f k l =
     flat ks (marked_exact ks f k wd.OpArgGbl l)
-        (flat ks (sign_exact ks f k sg.LeftParen l)
-        (flat ks (global_exact ks f k l)
-        (flat ks (sign_exact ks f k sg.Comma l)
-        (flat ks (number_exact ks f k l)
-        (flat ks (sign_exact ks f k sg.Comma l)
-        (flat ks (text_exact ks f k l) (flat ks (sign_exact ks f k sg.Comma l)
-        (flat ks (access_exact ks f k l) (sign_exact ks f k sg.RightParen l)))))))))
+    (flat ks (sign_exact ks f k sg.LeftParen l)
+    (flat ks (global_exact ks f k l)
+    (flat ks (sign_exact ks f k sg.Comma l)
+    (flat ks (number_exact ks f k l)
+    (flat ks (sign_exact ks f k sg.Comma l)
+    (flat ks (text_exact ks f k l) (flat ks (sign_exact ks f k sg.Comma l)
+    (flat ks (access_exact ks f k l) (sign_exact ks f k sg.RightParen l)))))))))
 
 -- what was read of what is made of a reader's values
 pub image_sound : (ks : List Kind) {A B : Type 0} {from size : ℕ} {ok : A → Type 0} (print : B → List Mark) (f : A → B)
@@ -99,12 +99,14 @@ arg_exact ks from k l = record {
     arg_complete : (a : LoopArg) (n e : ℕ) → Spans ks n (argument k a) e → arg_at ks n ≡ after (first_deep n (argument k a)) (Ok (a, e))
     arg_complete (arg.Dat at dat index through dim text a at') n e s =
         arg_dat ks n (rw s.0 refl) ∙ made_complete _ (dat_row ks) n e
-            (at, (tt, (dat, (tt, (index, (tt, (through, (tt, (dim, (tt, (text, (tt, ((a, at'), tt))))))))))))) _
-            ((dat_exact ks 0 k l).complete (at,
-            (tt, (dat, (tt, (index, (tt, (through, (tt, (dim, (tt, (text, (tt, ((a, at'), tt))))))))))))) n e tt s tt)
+        (at, (tt, (dat, (tt, (index, (tt, (through, (tt, (dim, (tt, (text, (tt, ((a, at'), tt))))))))))))) _
+        ((dat_exact ks 0 k l).complete (
+          at,
+          (tt, (dat, (tt, (index, (tt, (through, (tt, (dim, (tt, (text, (tt, ((a, at'), tt)))))))))))),
+        ) n e tt s tt)
     arg_complete (arg.Global at g dim text a at') n e s =
         arg_gbl ks n s.0 ∙ made_complete _ (global_row ks) n e (at, (tt, (g, (tt, (dim, (tt, (text, (tt, ((a, at'), tt))))))))) _
-            ((gbl_exact ks 0 k l).complete (at, (tt, (g, (tt, (dim, (tt, (text, (tt, ((a, at'), tt))))))))) n e tt s tt)
+        ((gbl_exact ks 0 k l).complete (at, (tt, (g, (tt, (dim, (tt, (text, (tt, ((a, at'), tt))))))))) n e tt s tt)
 
 arguments_are : (k : ℕ) (xs : List LoopArg) → arguments k xs ≡ tails k (argument k) xs
 arguments_are k [] = refl
@@ -128,8 +130,8 @@ args_exact ks from k l = record {
   complete = λ xs n e o s h.
       (let s' = subst (λ z. Spans ks n z e) (arguments_are k xs) s in
       tails_complete ks from 1 k Any (argument k) Free Free (arg_at ks) (arg_exact ks from k l) l (λ a n h. tt) (λ a n h. tt) xs (length ks)
-          n e (omega (arith, spans_end ks n (tails k (argument k) xs) e s', tails_long k xs, paren_within ks e h)) (all_any xs) s' h
-          ∙ ap (λ z. after (first_deep n z) (Ok (xs, e))) (sym (arguments_are k xs)));
+      n e (omega (arith, spans_end ks n (tails k (argument k) xs) e s', tails_long k xs, paren_within ks e h)) (all_any xs) s' h
+      ∙ ap (λ z. after (first_deep n z) (Ok (xs, e))) (sym (arguments_are k xs)));
   sound = λ n y h.
       (let r = tails_sound ks from 1 k Any (argument k) Free Free (arg_at ks) (arg_exact ks from k l) l (λ a n h. tt) (λ a n h. tt) (length ks) n y h in
       record {

@@ -57,8 +57,8 @@ module _ (ks : List Kind) {A : Type 0} (from : ℕ) (ok : A → Type 0) (marks :
       let first = x.complete a n r.0 o.0 r.1 (use_ a r.0 (begins_good xs r.0 e o.1 r.2 h)) in
       let more = until_complete xs c r.0 e (omega arith) o.1 r.2 h in
       until_goes closes p c n r.0 e a xs (first_deep n (marks a)) (first_deep r.0 (joined marks xs))
-          (starts a n e (joined marks xs) o.0 s).0 first more
-          ∙ ap (λ z. after z (Ok (a ∷ xs, e))) (sym (deep_split ks n (marks a) (joined marks xs) r.0 r.1))
+      (starts a n e (joined marks xs) o.0 s).0 first more
+      ∙ ap (λ z. after z (Ok (a ∷ xs, e))) (sym (deep_split ks n (marks a) (joined marks xs) r.0 r.1))
 
 -- what was read of items up to what closes them
 pub record Listed (ks : List Kind) {A : Type 0} (ok : A → Type 0) (marks : A → List Mark) (n : ℕ) (xs : List A) (e : ℕ) : Type 0 where
@@ -132,63 +132,70 @@ ParenAt ks n = slice_get ks n ≡ Some (kind.Sign sg.RightParen)
 module _ (ks : List Kind) {A : Type 0} (from size k : ℕ) (ok : A → Type 0) (marks : A → List Mark) (needs gives : A → ℕ → Type 0)
     (p : Reader A) (x : Exact ks from size ok marks needs gives p) (fits : nat_lt 64 k ≡ false)
     (comma : (a : A) (n : ℕ) → slice_get ks n ≡ Some (kind.Sign sg.Comma) → needs a n) (paren : (a : A) (n : ℕ) → ParenAt ks n → needs a n)
-    where
-  next_needs : (a : A) (xs : List A) (n e : ℕ) → Spans ks n (tails k marks xs) e → ParenAt ks e → needs a n
-  next_needs a [] n e s h = subst (needs a) (sym s) (paren a e h)
-  next_needs a (b ∷ xs) n e s h = comma a n s.0
+  where
+    next_needs : (a : A) (xs : List A) (n e : ℕ) → Spans ks n (tails k marks xs) e → ParenAt ks e → needs a n
+    next_needs a [] n e s h = subst (needs a) (sym s) (paren a e h)
+    next_needs a (b ∷ xs) n e s h = comma a n s.0
 
-  pub tails_complete : (xs : List A) (c n e : ℕ) → length xs < c → AllValid ok xs → Spans ks n (tails k marks xs) e → ParenAt ks e
-      → behind_commas ks p c n ≡ after (first_deep n (tails k marks xs)) (Ok (xs, e))
-  tails_complete [] zero n e f o s h = absurd (omega arith)
-  tails_complete [] (suc c) n e f o s h =
-      let here : slice_get ks n ≡ Some (kind.Sign sg.RightParen) = subst (ParenAt ks) (sym s) h in
-      commas_stops ks p c n (rw here refl) ∙ ap (λ (z : ℕ). Ok ([], z)) s
-  tails_complete (a ∷ xs) zero n e f o s h = absurd (omega arith)
-  tails_complete (a ∷ xs) (suc c) n e f o s h =
-      let r = spans_split ks (suc n) (marks a) (tails k marks xs) e s.2 in
-      let first = x.complete a (suc n) r.0 o.0 r.1 (next_needs a xs r.0 e r.2 h) in
-      let more = tails_complete xs c r.0 e (omega arith) o.1 r.2 h in
-      commas_goes ks p c n r.0 e a xs (first_deep (suc n) (marks a)) (first_deep r.0 (tails k marks xs)) s.0 first more
-          ∙ ap (λ z. after z (Ok (a ∷ xs, e)))
-          (sym (deep_over n (sign_mark k sg.Comma) (marks a ++ tails k marks xs) fits
-          ∙ deep_split ks (suc n) (marks a) (tails k marks xs) r.0 r.1))
+    pub tails_complete : (xs : List A) (c n e : ℕ) → length xs < c → AllValid ok xs → Spans ks n (tails k marks xs) e → ParenAt ks e
+        → behind_commas ks p c n ≡ after (first_deep n (tails k marks xs)) (Ok (xs, e))
+    tails_complete [] zero n e f o s h = absurd (omega arith)
+    tails_complete [] (suc c) n e f o s h =
+        let here : slice_get ks n ≡ Some (kind.Sign sg.RightParen) = subst (ParenAt ks) (sym s) h in
+        commas_stops ks p c n (rw here refl) ∙ ap (λ (z : ℕ). Ok ([], z)) s
+    tails_complete (a ∷ xs) zero n e f o s h = absurd (omega arith)
+    tails_complete (a ∷ xs) (suc c) n e f o s h =
+        let r = spans_split ks (suc n) (marks a) (tails k marks xs) e s.2 in
+        let first = x.complete a (suc n) r.0 o.0 r.1 (next_needs a xs r.0 e r.2 h) in
+        let more = tails_complete xs c r.0 e (omega arith) o.1 r.2 h in
+        commas_goes ks p c n r.0 e a xs (first_deep (suc n) (marks a)) (first_deep r.0 (tails k marks xs)) s.0 first more
+        ∙ ap (λ z. after z (Ok (a ∷ xs, e)))
+        (sym (deep_over n (sign_mark k sg.Comma) (marks a ++ tails k marks xs) fits
+        ∙ deep_split ks (suc n) (marks a) (tails k marks xs) r.0 r.1))
 
-  pub tails_sound : (c n : ℕ) (y : List A × ℕ) → behind_commas ks p c n ≡ Ok y → AllValid ok y.0 × (Spans ks n (tails k marks y.0) y.1 × (first_deep n (tails k marks y.0) ≡ None))
-  unfolding behind_commas
-  tails_sound zero n y h = cc
-  tails_sound (suc c) n y h = by_test (sign_is sg.Comma (slice_get ks n)) refl h (λ j z g. tails_sound c j z g)
-    where
-      by_test : (t : Bool) → sign_is sg.Comma (slice_get ks n) ≡ t
-          → cond t (p (suc n) >>= λ a. behind_commas ks p c a.1 >>= λ r. Ok (a.0 ∷ r.0, r.1)) (Ok ([], n)) ≡ Ok y
-          → ((j : ℕ) (z : List A × ℕ) → behind_commas ks p c j ≡ Ok z → AllValid ok z.0
-          × (Spans ks j (tails k marks z.0) z.1 × (first_deep j (tails k marks z.0) ≡ None))) → AllValid ok y.0
-          × (Spans ks n (tails k marks y.0) y.1 × (first_deep n (tails k marks y.0) ≡ None))
-      by_test false t h go =
-          let made : AllValid ok [] × (Spans ks n [] n × (first_deep n [] ≡ None)) = (tt, (refl, refl)) in
-          subst (λ (w : List A × ℕ). AllValid ok w.0 × (Spans ks n (tails k marks w.0) w.1 × (first_deep n (tails k marks w.0) ≡ None))) (ok_one ([], n) y h) made
-      by_test true t h go =
-          let a = bind_ok (p (suc n)) _ y h in
-          let b = bind_ok (behind_commas ks p c a.0.1) _ y a.2 in
-          let first = x.sound (suc n) a.0 a.1 in
-          let more = go a.0.1 b.0 b.1 in
-          let made : AllValid ok (a.0.0 ∷ b.0.0) ×
-              (Spans ks n (tails k marks (a.0.0 ∷ b.0.0)) b.0.1 × (first_deep n (tails k marks (a.0.0 ∷ b.0.0)) ≡ None)) =
-              ((first.valid, more.0), ((sign_found sg.Comma (slice_get ks n) t, tt,
-              spans_join ks (suc n) (marks a.0.0) (tails k marks b.0.0) a.0.1 b.0.1 first.spans more.1.0),
-              deep_over n (sign_mark k sg.Comma) (marks a.0.0 ++ tails k marks b.0.0) fits
-              ∙ deep_split ks (suc n) (marks a.0.0) (tails k marks b.0.0) a.0.1 first.spans ∙ rw (first.shallow, more.1.1) refl)) in
-          subst (λ (w : List A × ℕ). AllValid ok w.0 × (Spans ks n (tails k marks w.0) w.1 × (first_deep n (tails k marks w.0) ≡ None))) (ok_one (a.0.0 ∷ b.0.0, b.0.1) y b.2) made
+    pub tails_sound : (c n : ℕ) (y : List A × ℕ) → behind_commas ks p c n ≡ Ok y → AllValid ok y.0 × (Spans ks n (tails k marks y.0) y.1 × (first_deep n (tails k marks y.0) ≡ None))
+    unfolding behind_commas
+    tails_sound zero n y h = cc
+    tails_sound (suc c) n y h = by_test (sign_is sg.Comma (slice_get ks n)) refl h (λ j z g. tails_sound c j z g)
+      where
+        by_test : (t : Bool) → sign_is sg.Comma (slice_get ks n) ≡ t
+            → cond t (p (suc n) >>= λ a. behind_commas ks p c a.1 >>= λ r. Ok (a.0 ∷ r.0, r.1)) (Ok ([], n)) ≡ Ok y
+            → ((j : ℕ) (z : List A × ℕ) → behind_commas ks p c j ≡ Ok z → AllValid ok z.0
+            × (Spans ks j (tails k marks z.0) z.1 × (first_deep j (tails k marks z.0) ≡ None))) → AllValid ok y.0
+            × (Spans ks n (tails k marks y.0) y.1 × (first_deep n (tails k marks y.0) ≡ None))
+        by_test false t h go =
+            let made : AllValid ok [] × (Spans ks n [] n × (first_deep n [] ≡ None)) = (tt, (refl, refl)) in
+            subst (λ (w : List A × ℕ). AllValid ok w.0 × (Spans ks n (tails k marks w.0) w.1 × (first_deep n (tails k marks w.0) ≡ None))) (ok_one ([], n) y h) made
+        by_test true t h go =
+            let a = bind_ok (p (suc n)) _ y h in
+            let b = bind_ok (behind_commas ks p c a.0.1) _ y a.2 in
+            let first = x.sound (suc n) a.0 a.1 in
+            let more = go a.0.1 b.0 b.1 in
+            let made : AllValid ok (a.0.0 ∷ b.0.0) ×
+            (Spans ks n (tails k marks (a.0.0 ∷ b.0.0)) b.0.1 × (first_deep n (tails k marks (a.0.0 ∷ b.0.0)) ≡ None)) = (
+              (first.valid, more.0),
+              (
+                (
+                  sign_found sg.Comma (slice_get ks n) t,
+                  tt,
+                  spans_join ks (suc n) (marks a.0.0) (tails k marks b.0.0) a.0.1 b.0.1 first.spans more.1.0,
+                ),
+                deep_over n (sign_mark k sg.Comma) (marks a.0.0 ++ tails k marks b.0.0) fits
+                    ∙ deep_split ks (suc n) (marks a.0.0) (tails k marks b.0.0) a.0.1 first.spans ∙ rw (first.shallow, more.1.1) refl,
+              ),
+            ) in
+            subst (λ (w : List A × ℕ). AllValid ok w.0 × (Spans ks n (tails k marks w.0) w.1 × (first_deep n (tails k marks w.0) ≡ None))) (ok_one (a.0.0 ∷ b.0.0, b.0.1) y b.2) made
 
-  pub tails_far : (c n q : ℕ) → from ≤ n → behind_commas ks p c n ≡ Err (TooDeep q) → 64 ≤ q
-  unfolding behind_commas
-  tails_far zero n q l h = cc
-  tails_far (suc c) n q l h = by_test (sign_is sg.Comma (slice_get ks n)) h (λ j m g. tails_far c j q m g)
-    where
-      by_test : (t : Bool) → ◌≡◌ {A = Result (List A × ℕ) Fault}
-          (cond t (p (suc n) >>= λ a. behind_commas ks p c a.1 >>= λ r. Ok (a.0 ∷ r.0, r.1)) (Ok ([], n))) (Err (TooDeep q))
-          → ((j : ℕ) → from ≤ j → behind_commas ks p c j ≡ Err (TooDeep q) → 64 ≤ q) → 64 ≤ q
-      by_test false h go = cc
-      by_test true h go =
-          far_bind (p (suc n)) _ q h (x.far (suc n) q (omega arith)) (λ a r g.
-          (let moved = x.moves (suc n) a r in
-          far_bind (behind_commas ks p c a.1) _ q g (go a.1 (omega arith)) (λ b r g. cc)))
+    pub tails_far : (c n q : ℕ) → from ≤ n → behind_commas ks p c n ≡ Err (TooDeep q) → 64 ≤ q
+    unfolding behind_commas
+    tails_far zero n q l h = cc
+    tails_far (suc c) n q l h = by_test (sign_is sg.Comma (slice_get ks n)) h (λ j m g. tails_far c j q m g)
+      where
+        by_test : (t : Bool) → ◌≡◌ {A = Result (List A × ℕ) Fault}
+            (cond t (p (suc n) >>= λ a. behind_commas ks p c a.1 >>= λ r. Ok (a.0 ∷ r.0, r.1)) (Ok ([], n))) (Err (TooDeep q))
+            → ((j : ℕ) → from ≤ j → behind_commas ks p c j ≡ Err (TooDeep q) → 64 ≤ q) → 64 ≤ q
+        by_test false h go = cc
+        by_test true h go =
+            far_bind (p (suc n)) _ q h (x.far (suc n) q (omega arith)) (λ a r g.
+            (let moved = x.moves (suc n) a r in
+            far_bind (behind_commas ks p c a.1) _ q g (go a.1 (omega arith)) (λ b r g. cc)))

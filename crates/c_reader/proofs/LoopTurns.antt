@@ -48,8 +48,8 @@ module _ {X A : Type 0} (view : X → A) (closes : ℕ → Bool) (p : Reader A) 
   pub until_turn : (x : X) (e : ℕ) → c < m → closes n ≡ false → p n ≡ Ok (view x, e) → all ≡ with_front (map view (xs ++ x ∷ [])) (until closes p (m - (c + 1)) e)
   until_turn x e h b r =
       so_far ∙ ap (λ z. with_front (map view xs) (until closes p z n)) (left_over c m h)
-          ∙ ap (with_front (map view xs)) (until_step closes p (m - (c + 1)) n (view x) e b r)
-          ∙ push_front view xs x (until closes p (m - (c + 1)) e)
+      ∙ ap (with_front (map view xs)) (until_step closes p (m - (c + 1)) n (view x) e b r)
+      ∙ push_front view xs x (until closes p (m - (c + 1)) e)
 
   -- an item that isn't read
   pub until_fails : (e : ReadError) → c < m → closes n ≡ false → Fails e (p n) → Fails e all
@@ -61,7 +61,7 @@ module _ {X A : Type 0} (view : X → A) (closes : ℕ → Bool) (p : Reader A) 
   pub until_ends : c < m → closes n ≡ true → all ≡ Ok (map view xs, n)
   until_ends h b =
       so_far ∙ ap (λ z. with_front (map view xs) (until closes p z n)) (left_over c m h)
-          ∙ ap (with_front (map view xs)) (until_end closes p (m - (c + 1)) n b) ∙ ap (λ z. Ok (z, n)) (append-nil (map view xs))
+      ∙ ap (with_front (map view xs)) (until_end closes p (m - (c + 1)) n b) ∙ ap (λ z. Ok (z, n)) (append-nil (map view xs))
 
   -- no tokens left
   pub until_over : m ≤ c → all ≡ Err (Syntax n)
@@ -91,8 +91,8 @@ module _ {X A : Type 0} (view : X → A) (ks : List Kind) (p : Reader A) (m c n 
   pub commas_turn : (x : X) (e : ℕ) → c < m → sign_is s.Comma (slice_get ks n) ≡ true → p (n + 1) ≡ Ok (view x, e) → all ≡ with_front (map view (xs ++ x ∷ [])) (behind_commas ks p (m - (c + 1)) e)
   commas_turn x e h b r =
       so_far ∙ ap (λ z. with_front (map view xs) (behind_commas ks p z n)) (left_over c m h)
-          ∙ ap (with_front (map view xs)) (commas_step ks p (m - (c + 1)) n (view x) e b (rw (← add-one n) r))
-          ∙ push_front view xs x (behind_commas ks p (m - (c + 1)) e)
+      ∙ ap (with_front (map view xs)) (commas_step ks p (m - (c + 1)) n (view x) e b (rw (← add-one n) r))
+      ∙ push_front view xs x (behind_commas ks p (m - (c + 1)) e)
 
   pub commas_fails : (e : ReadError) → c < m → sign_is s.Comma (slice_get ks n) ≡ true → Fails e (p (n + 1)) → Fails e all
   commas_fails errors.Memory h b r = tt
@@ -102,7 +102,7 @@ module _ {X A : Type 0} (view : X → A) (ks : List Kind) (p : Reader A) (m c n 
   pub commas_ends : c < m → sign_is s.Comma (slice_get ks n) ≡ false → all ≡ Ok (map view xs, n)
   commas_ends h b =
       so_far ∙ ap (λ z. with_front (map view xs) (behind_commas ks p z n)) (left_over c m h)
-          ∙ ap (with_front (map view xs)) (commas_end ks p (m - (c + 1)) n b) ∙ ap (λ z. Ok (z, n)) (append-nil (map view xs))
+      ∙ ap (with_front (map view xs)) (commas_end ks p (m - (c + 1)) n b) ∙ ap (λ z. Ok (z, n)) (append-nil (map view xs))
 
   pub commas_over : m ≤ c → all ≡ Err (Syntax n)
   commas_over h =
@@ -132,9 +132,9 @@ module _ {X A : Type 0} (view : X → A) (ks : List Kind) (p : Reader A) (last :
   pub separated_turn : (x : X) (e : ℕ) → c < m → p n ≡ Ok (view x, e) → sign_is s.Comma (slice_get ks e) ≡ true → all ≡ with_front (map view (xs ++ x ∷ [])) (separated ks p last (m - (c + 1)) (e + 1))
   separated_turn x e h r b =
       so_far ∙ ap (λ z. with_front (map view xs) (separated ks p last z n)) (left_over c m h)
-          ∙ ap (with_front (map view xs)) (separated_step ks p last (m - (c + 1)) n (view x) e r b)
-          ∙ push_front view xs x (separated ks p last (m - (c + 1)) (suc e))
-          ∙ ap (λ z. with_front (map view (xs ++ x ∷ [])) (separated ks p last (m - (c + 1)) z)) (sym (add-one e))
+      ∙ ap (with_front (map view xs)) (separated_step ks p last (m - (c + 1)) n (view x) e r b)
+      ∙ push_front view xs x (separated ks p last (m - (c + 1)) (suc e))
+      ∙ ap (λ z. with_front (map view (xs ++ x ∷ [])) (separated ks p last (m - (c + 1)) z)) (sym (add-one e))
 
   pub separated_fails : (e : ReadError) → c < m → Fails e (p n) → Fails e all
   separated_fails errors.Memory h r = tt
@@ -144,8 +144,8 @@ module _ {X A : Type 0} (view : X → A) (ks : List Kind) (p : Reader A) (last :
   pub separated_ends : (x : X) (e i : ℕ) → c < m → p n ≡ Ok (view x, e) → sign_is s.Comma (slice_get ks e) ≡ false → sign_at ks last e ≡ Ok i → all ≡ Ok (map view (xs ++ x ∷ []), i)
   separated_ends x e i h r b t =
       so_far ∙ ap (λ z. with_front (map view xs) (separated ks p last z n)) (left_over c m h)
-          ∙ ap (with_front (map view xs)) (separated_close ks p last (m - (c + 1)) n (view x) e r b)
-          ∙ rw t (ap (λ z. Ok (z, i)) (sym (map-push view xs x)))
+      ∙ ap (with_front (map view xs)) (separated_close ks p last (m - (c + 1)) n (view x) e r b)
+      ∙ rw t (ap (λ z. Ok (z, i)) (sym (map-push view xs x)))
 
   pub separated_stops : (x : X) (e : ℕ) (f : ReadError) → c < m → p n ≡ Ok (view x, e) → sign_is s.Comma (slice_get ks e) ≡ false → Fails f (sign_at ks last e) → Fails f all
   separated_stops x e errors.Memory h r b t = tt

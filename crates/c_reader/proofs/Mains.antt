@@ -54,8 +54,8 @@ tops_complete : (ks : List Kind) (ts : List TopTree) (n e : ℕ) → AreTops ts 
     → begins_main ks e ≡ true → tops_at ks n ≡ after (first_deep n (tops ts)) (Ok (ts, e))
 tops_complete ks ts n e o l s h =
     until_complete ks 0 IsTop top Free Free (top_at ks) (top_exact ks) (begins_main ks) (λ j. Unit {0})
-        (λ a n e more o s. (no_main ks a n e more o s, tt)) (λ n h. tt) (λ a n g. tt) ts (length ks) n e l (all_tops ts o)
-        (subst (λ z. Spans ks n z e) (tops_joined ts) s) h ∙ ap (λ z. after z (Ok (ts, e))) (sym (ap (first_deep n) (tops_joined ts)))
+    (λ a n e more o s. (no_main ks a n e more o s, tt)) (λ n h. tt) (λ a n g. tt) ts (length ks) n e l (all_tops ts o)
+    (subst (λ z. Spans ks n z e) (tops_joined ts) s) h ∙ ap (λ z. after z (Ok (ts, e))) (sym (ap (first_deep n) (tops_joined ts)))
 
 -- `**argv` or `*argv[]`
 starred_exact : (ks : List Kind) → Exact ks 0 3 Any
@@ -204,8 +204,8 @@ body_exact : (ks : List Kind) → Exact ks 1 0 (λ xs. AreHosts (host_trees xs))
 body_exact ks = record {
   complete = λ xs n e o s h.
       block_complete ks 0 0 64 refl zero-le (host_at ks 64) (host_exact ks 64 1 1 refl (omega arith)) closing.Exit (kind.Word wd.OpExit)
-          (host_trees xs) n e o s h (word_here wd.OpExit (slice_get ks e) h)
-          ∙ ap (λ (z : List HostTree). after (first_deep n (hosts 1 (host_trees xs))) (Ok (z, e))) (list_trees xs);
+      (host_trees xs) n e o s h (word_here wd.OpExit (slice_get ks e) h)
+      ∙ ap (λ (z : List HostTree). after (first_deep n (hosts 1 (host_trees xs))) (Ok (z, e))) (list_trees xs);
   sound = λ n y h.
       (let r = block_sound ks 0 0 64 refl zero-le (host_at ks 64) (host_exact ks 64 1 1 refl (omega arith)) closing.Exit n y h in
       record { valid = r.0; spans = r.1.0; shallow = r.1.1; behind = tt });
@@ -220,7 +220,7 @@ body_exact ks = record {
 abbrev front_marks : ℕ → Bool → List Mark
 front_marks at b =
     word_mark 0 wd.Int ∷ named_word 0 wd.Main at ∷ sign_mark 0 sg.LeftParen ∷ word_mark 0 wd.Int ∷ word_mark 0 wd.Argc
-        ∷ sign_mark 0 sg.Comma ∷ word_mark 0 wd.Char ∷ (argv_marks b ++ (sign_mark 0 sg.RightParen ∷ sign_mark 0 sg.LeftBrace ∷ []))
+    ∷ sign_mark 0 sg.Comma ∷ word_mark 0 wd.Char ∷ (argv_marks b ++ (sign_mark 0 sg.RightParen ∷ sign_mark 0 sg.LeftBrace ∷ []))
 
 abbrev end_marks : ℕ → Option NumberLiteral → List Mark
 end_marks at v =
@@ -229,21 +229,21 @@ end_marks at v =
 front_exact : (ks : List Kind) → Exact ks 0 12 Any (λ v. front_marks v.1.0 v.1.1.1.1.1.1.1.0) Free Free (main_front ks)
 front_exact ks =
     flat ks (word_exact ks 0 0 wd.Int refl)
-        (flat ks (marked_exact ks 0 0 wd.Main refl)
-        (flat ks (sign_exact ks 0 0 sg.LeftParen refl)
-        (flat ks (word_exact ks 0 0 wd.Int refl)
-        (flat ks (word_exact ks 0 0 wd.Argc refl)
-        (flat ks (sign_exact ks 0 0 sg.Comma refl)
-        (flat ks (word_exact ks 0 0 wd.Char refl)
-        (flat ks (argv_exact ks) (flat ks (sign_exact ks 0 0 sg.RightParen refl) (sign_exact ks 0 0 sg.LeftBrace refl)))))))))
+    (flat ks (marked_exact ks 0 0 wd.Main refl)
+    (flat ks (sign_exact ks 0 0 sg.LeftParen refl)
+    (flat ks (word_exact ks 0 0 wd.Int refl)
+    (flat ks (word_exact ks 0 0 wd.Argc refl)
+    (flat ks (sign_exact ks 0 0 sg.Comma refl)
+    (flat ks (word_exact ks 0 0 wd.Char refl)
+    (flat ks (argv_exact ks) (flat ks (sign_exact ks 0 0 sg.RightParen refl) (sign_exact ks 0 0 sg.LeftBrace refl)))))))))
 
 end_exact : (ks : List Kind) → Exact ks 0 5 Any (λ v. end_marks v.0 v.1.1.1.1.0) Free Free (main_end ks)
 end_exact ks =
     flat ks (marked_exact ks 0 0 wd.OpExit refl)
-        (flat ks (sign_exact ks 0 0 sg.LeftParen refl)
-        (flat ks (sign_exact ks 0 0 sg.RightParen refl)
-        (flat ks (sign_exact ks 0 0 sg.Semicolon refl)
-        (needy_then ks (omega arith) (return_exact ks) (sign_exact ks 0 0 sg.RightBrace refl) (λ a b j e s. s.0)))))
+    (flat ks (sign_exact ks 0 0 sg.LeftParen refl)
+    (flat ks (sign_exact ks 0 0 sg.RightParen refl)
+    (flat ks (sign_exact ks 0 0 sg.Semicolon refl)
+    (needy_then ks (omega arith) (return_exact ks) (sign_exact ks 0 0 sg.RightBrace refl) (λ a b j e s. s.0)))))
 
 -- what stands behind the front
 tail_exact : (ks : List Kind) → Exact ks 1 5 (λ v. AreHosts (host_trees v.0))
@@ -262,22 +262,26 @@ row_exact ks = then_exact ks (omega arith) (front_exact ks) (tail_exact ks)
 main_row : (m : MainTree) → main m ≡ row_marks m.at m.argv_has_brackets m.body m.exit_at m.returned
 main_row m =
     ap (λ z. word_mark 0 wd.Int ∷ named_word 0 wd.Main m.at ∷ sign_mark 0 sg.LeftParen ∷ word_mark 0 wd.Int ∷ word_mark 0 wd.Argc
-        ∷ sign_mark 0 sg.Comma ∷ word_mark 0 wd.Char ∷ z)
-        (sym (append_assoc (argv_marks m.argv_has_brackets) (sign_mark 0 sg.RightParen ∷ sign_mark 0 sg.LeftBrace ∷ [])
-        (hosts 1 m.body ++ end_marks m.exit_at m.returned)))
+    ∷ sign_mark 0 sg.Comma ∷ word_mark 0 wd.Char ∷ z)
+    (sym (append_assoc (argv_marks m.argv_has_brackets) (sign_mark 0 sg.RightParen ∷ sign_mark 0 sg.LeftBrace ∷ [])
+    (hosts 1 m.body ++ end_marks m.exit_at m.returned)))
 
 main_is : (ks : List Kind) (m : MainTree) (xs : List HostTree) (n e : ℕ) → AreHosts (host_trees xs) → host_trees xs ≡ m.body
     → Spans ks n (row_marks m.at m.argv_has_brackets (host_trees xs) m.exit_at m.returned) e
     → main_at ks n ≡ after (first_deep n (row_marks m.at m.argv_has_brackets (host_trees xs) m.exit_at m.returned))
-    (Ok (record { at = m.at; argv_has_brackets = m.argv_has_brackets; body = host_trees xs; exit_at = m.exit_at; returned = m.returned },
-    e))
+    (Ok (
+      record { at = m.at; argv_has_brackets = m.argv_has_brackets; body = host_trees xs; exit_at = m.exit_at; returned = m.returned },
+      e,
+    ))
 unfolding main_at
 main_is ks m xs n e o i s =
     made_complete _ (both (main_front ks) (both (hosts_in ks closing.Exit (host_at ks 64)) (main_end ks))) n e
-        ((tt, (m.at, (tt, (tt, (tt, (tt, (tt, (m.argv_has_brackets, (tt, tt))))))))), (xs, (m.exit_at, (tt, (tt, (tt, (m.returned, tt)))))))
-        (first_deep n (row_marks m.at m.argv_has_brackets (host_trees xs) m.exit_at m.returned))
-        ((row_exact ks).complete ((tt, (m.at, (tt, (tt, (tt, (tt, (tt, (m.argv_has_brackets, (tt, tt))))))))),
-        (xs, (m.exit_at, (tt, (tt, (tt, (m.returned, tt))))))) n e o s tt)
+    ((tt, (m.at, (tt, (tt, (tt, (tt, (tt, (m.argv_has_brackets, (tt, tt))))))))), (xs, (m.exit_at, (tt, (tt, (tt, (m.returned, tt)))))))
+    (first_deep n (row_marks m.at m.argv_has_brackets (host_trees xs) m.exit_at m.returned))
+    ((row_exact ks).complete (
+      (tt, (m.at, (tt, (tt, (tt, (tt, (tt, (m.argv_has_brackets, (tt, tt))))))))),
+      (xs, (m.exit_at, (tt, (tt, (tt, (m.returned, tt)))))),
+    ) n e o s tt)
 
 main_complete : (ks : List Kind) (m : MainTree) (n e : ℕ) → AreHosts m.body → Spans ks n (main m) e → main_at ks n ≡ after (first_deep n (main m)) (Ok (m, e))
 main_complete ks m n e o s =
@@ -286,11 +290,11 @@ main_complete ks m n e o s =
     let s' = subst (λ z. Spans ks n z e) (main_row m) s in
     let valid : AreHosts (host_trees xs) = subst AreHosts (sym same) o in
     let rowed : Spans ks n (row_marks m.at m.argv_has_brackets (host_trees xs) m.exit_at m.returned) e =
-        subst (λ z. Spans ks n (row_marks m.at m.argv_has_brackets z m.exit_at m.returned) e) (sym same) s' in
+    subst (λ z. Spans ks n (row_marks m.at m.argv_has_brackets z m.exit_at m.returned) e) (sym same) s' in
     main_is ks m xs n e valid same rowed ∙ ap
-        (λ (z : HostTrees). after (first_deep n (row_marks m.at m.argv_has_brackets z m.exit_at m.returned))
-        (Ok (record { at = m.at; argv_has_brackets = m.argv_has_brackets; body = z; exit_at = m.exit_at; returned = m.returned }, e))) same
-        ∙ ap (λ z. after z (Ok (m, e))) (sym (ap (first_deep n) (main_row m)))
+    (λ (z : HostTrees). after (first_deep n (row_marks m.at m.argv_has_brackets z m.exit_at m.returned))
+    (Ok (record { at = m.at; argv_has_brackets = m.argv_has_brackets; body = z; exit_at = m.exit_at; returned = m.returned }, e))) same
+    ∙ ap (λ z. after z (Ok (m, e))) (sym (ap (first_deep n) (main_row m)))
 
 -- a `main` that was read
 record FoundMain (ks : List Kind) (n : ℕ) (m : MainTree) (e : ℕ) : Type 0 where
@@ -380,7 +384,7 @@ pub whole_far : (ks : List Kind) (places : List Pos) (q : ℕ) → whole ks plac
 unfolding whole
 whole_far ks places q h =
     far_bind (tops_at ks 0) _ q h (until_far ks 0 1 IsTop top Free Free (top_at ks) (top_exact ks) (begins_main ks) (length ks) 0 q zero-le)
-        (λ t r g. far_bind (main_at ks t.1) _ q g (main_far ks t.1 q) (λ m r g. by_end t m (nat_eq m.1 (length ks)) g))
+    (λ t r g. far_bind (main_at ks t.1) _ q g (main_far ks t.1 q) (λ m r g. by_end t m (nat_eq m.1 (length ks)) g))
   where
     by_end : (t : List TopTree × ℕ) (m : MainTree × ℕ) (b : Bool)
         → ◌≡◌ {A = Result ProgramTree Fault} (cond b (Ok (record { tops = t.0; main = m.0; places = places })) (Err (Syntax m.1)))

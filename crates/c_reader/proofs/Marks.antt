@@ -104,13 +104,14 @@ assign_near ks n q h = by_kind (slice_get ks n) h
 pub assign_exact : (ks : List Kind) (from k : ℕ) → nat_lt 64 k ≡ false → Exact ks from 1 Any (λ (v : PlacedOp). named_sign k (assign_sign_of v.0) v.1 ∷ []) Free Free (placed_assign ks)
 assign_exact ks from k fits =
     one_exact ks from (λ (v : PlacedOp). named_sign k (assign_sign_of v.0) v.1) (placed_assign ks) (λ v. fits)
-        (λ v n h a. rw (assign_is ks v.0 n h) (ap (λ (z : ℕ). Ok ((v.0, z), suc n)) (sym a))) (λ n y h.
+    (λ v n h a. rw (assign_is ks v.0 n h) (ap (λ (z : ℕ). Ok ((v.0, z), suc n)) (sym a))) (λ n y h.
     (let r = bind_ok (assign_at ks n) _ y h in
     let q = assign_ok ks n r.0 r.1 in
-    let same = ok_one ((r.0.0, n), r.0.1) y r.2 in
-    (q.0 ∙ ap (λ (z : PlacedOp × ℕ). Some (kind.Sign (assign_sign_of z.0.0))) same,
-        (sym (ap (λ (z : PlacedOp × ℕ). z.0.1) same), q.1 ∙ ap (λ (z : PlacedOp × ℕ). z.1) same))))
-        (λ n q h. near n q (assign_at ks n) (assign_near ks n q) h)
+    let same = ok_one ((r.0.0, n), r.0.1) y r.2 in (
+      q.0 ∙ ap (λ (z : PlacedOp × ℕ). Some (kind.Sign (assign_sign_of z.0.0))) same,
+      (sym (ap (λ (z : PlacedOp × ℕ). z.0.1) same), q.1 ∙ ap (λ (z : PlacedOp × ℕ). z.1) same),
+    )))
+    (λ n q h. near n q (assign_at ks n) (assign_near ks n q) h)
   where
     near : (n q : ℕ) (r : Result (AssignOp × ℕ) Fault) → (r ≡ Err (TooDeep q) → ⊥) → ◌≡◌ {A = Result (PlacedOp × ℕ) Fault} (r >>= λ o. Ok ((o.0, n), o.1)) (Err (TooDeep q)) → ⊥
     near n q (Ok x) f h = cc
@@ -165,13 +166,14 @@ access_near ks n q h = by_kind (slice_get ks n) h
 pub access_exact : (ks : List Kind) (from k : ℕ) → nat_lt 64 k ≡ false → Exact ks from 1 Any (λ (v : AccessWord × ℕ). named_word k (access_word_of v.0) v.1 ∷ []) Free Free (placed_access ks)
 access_exact ks from k fits =
     one_exact ks from (λ (v : AccessWord × ℕ). named_word k (access_word_of v.0) v.1) (placed_access ks) (λ v. fits)
-        (λ v n h a. rw (access_is ks v.0 n h) (ap (λ (z : ℕ). Ok ((v.0, z), suc n)) (sym a))) (λ n y h.
+    (λ v n h a. rw (access_is ks v.0 n h) (ap (λ (z : ℕ). Ok ((v.0, z), suc n)) (sym a))) (λ n y h.
     (let r = bind_ok (access_at ks n) _ y h in
     let q = access_ok ks n r.0 r.1 in
-    let same = ok_one ((r.0.0, n), r.0.1) y r.2 in
-    (q.0 ∙ ap (λ (z : (AccessWord × ℕ) × ℕ). Some (kind.Word (access_word_of z.0.0))) same,
-        (sym (ap (λ (z : (AccessWord × ℕ) × ℕ). z.0.1) same), q.1 ∙ ap (λ (z : (AccessWord × ℕ) × ℕ). z.1) same))))
-        (λ n q h. near n q (access_at ks n) (access_near ks n q) h)
+    let same = ok_one ((r.0.0, n), r.0.1) y r.2 in (
+      q.0 ∙ ap (λ (z : (AccessWord × ℕ) × ℕ). Some (kind.Word (access_word_of z.0.0))) same,
+      (sym (ap (λ (z : (AccessWord × ℕ) × ℕ). z.0.1) same), q.1 ∙ ap (λ (z : (AccessWord × ℕ) × ℕ). z.1) same),
+    )))
+    (λ n q h. near n q (access_at ks n) (access_near ks n q) h)
   where
     near : (n q : ℕ) (r : Result (AccessWord × ℕ) Fault) → (r ≡ Err (TooDeep q) → ⊥) → ◌≡◌ {A = Result ((AccessWord × ℕ) × ℕ) Fault} (r >>= λ o. Ok ((o.0, n), o.1)) (Err (TooDeep q)) → ⊥
     near n q (Ok x) f h = cc
@@ -209,7 +211,7 @@ via_ok ks k n y h = by_test (word_is wd.OpId (slice_get ks n)) refl h
         → (slice_get ks n ≡ Some (via_mark k y.0).kind) × (Keeps n (via_mark k y.0).number × (suc n ≡ y.1))
     by_test true t h =
         subst (λ (w : ArgVia × ℕ). (slice_get ks n ≡ Some (via_mark k w.0).kind) × (Keeps n (via_mark k w.0).number × (suc n ≡ w.1)))
-            (ok_one (via.Identity n, suc n) y h) (word_found wd.OpId (slice_get ks n) t, (refl, refl))
+        (ok_one (via.Identity n, suc n) y h) (word_found wd.OpId (slice_get ks n) t, (refl, refl))
     by_test false t h =
         let r = bind_ok (ident ks n) _ y h in
         let q = ident_ok ks n r.0 r.1 in
@@ -243,12 +245,12 @@ pub index_is : (ks : List Kind) (k : ℕ) (t : Bool) (at n e : ℕ) (v : _) → 
 unfolding index_at
 index_is ks k true at n e v fits s =
     rw (s.0, number_is ks (record { value = v; at = suc n }) (suc n) s.2.0 refl, fits)
-        (ap (λ (z : ℕ). Ok (record { is_negative = true; at = z; value = v }, suc (suc n))) (sym s.1)
-        ∙ ap (λ (z : ℕ). Ok (record { is_negative = true; at = at; value = v }, z)) s.2.2)
+    (ap (λ (z : ℕ). Ok (record { is_negative = true; at = z; value = v }, suc (suc n))) (sym s.1)
+    ∙ ap (λ (z : ℕ). Ok (record { is_negative = true; at = at; value = v }, z)) s.2.2)
 index_is ks k false at n e v fits s =
     rw (s.0, number_is ks (record { value = v; at = n }) n s.0 refl, fits)
-        (ap (λ (z : ℕ). Ok (record { is_negative = false; at = z; value = v }, suc n)) (sym s.1)
-        ∙ ap (λ (z : ℕ). Ok (record { is_negative = false; at = at; value = v }, z)) s.2)
+    (ap (λ (z : ℕ). Ok (record { is_negative = false; at = z; value = v }, suc n)) (sym s.1)
+    ∙ ap (λ (z : ℕ). Ok (record { is_negative = false; at = at; value = v }, z)) s.2)
 
 pub index_ok : (ks : List Kind) (k n : ℕ) (y : ArgIndex × ℕ) → nat_lt 64 k ≡ false → index_at ks n ≡ Ok y → Found ks Any (arg_index k) Free n y.0 y.1
 unfolding index_at
@@ -312,7 +314,7 @@ global_is ks k None x n e fits s =
     rw (s.0, ident_is ks x n s.0 s.1, fits) (ap (λ (z : ℕ). Ok (record { ampersand = None; name = x }, z)) s.2)
 global_is ks k (Some at) x n e fits s =
     rw (s.0, ident_is ks x (suc n) s.2.0 s.2.1, fits) (ap (λ (z : ℕ). Ok (record { ampersand = Some z; name = x }, suc (suc n))) (sym s.1)
-        ∙ ap (λ (z : ℕ). Ok (record { ampersand = Some at; name = x }, z)) s.2.2)
+    ∙ ap (λ (z : ℕ). Ok (record { ampersand = Some at; name = x }, z)) s.2.2)
 
 pub global_ok : (ks : List Kind) (k n : ℕ) (y : GlobalName × ℕ) → nat_lt 64 k ≡ false → global_at ks n ≡ Ok y → Found ks Any (glob k) Free n y.0 y.1
 unfolding global_at

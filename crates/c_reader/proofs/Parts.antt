@@ -37,7 +37,7 @@ body_exact : (ks : List Kind) → Exact ks 1 0 (λ xs. AreStmts (stmt_trees xs))
 body_exact ks = record {
   complete = λ xs n e o s h.
       block_complete ks 0 0 64 refl zero-le (stmt_at ks 64) (stmt_exact ks 64 1 1 refl (omega arith)) (stmt_trees xs) n e o s h
-          ∙ ap (λ (z : List StmtTree). after (first_deep n (stmts 1 (stmt_trees xs))) (Ok (z, e))) (list_trees xs);
+      ∙ ap (λ (z : List StmtTree). after (first_deep n (stmts 1 (stmt_trees xs))) (Ok (z, e))) (list_trees xs);
   sound = λ n y h.
       (let r = block_sound ks 0 0 64 refl zero-le (stmt_at ks 64) (stmt_exact ks 64 1 1 refl (omega arith)) n y h in
       record { valid = r.0; spans = r.1.0; shallow = r.1.1; behind = tt });
@@ -61,12 +61,12 @@ braced_exact ks =
 row_exact : (ks : List Kind) → Exact ks 0 5 (λ v. (v.1.1.1.0 ≢ []) × AreStmts (stmt_trees v.1.1.1.1.1.0)) (λ v. row_marks v.1.0 v.1.1.1.0 (stmt_trees v.1.1.1.1.1.0)) Free Free (kernel_row ks)
 row_exact ks =
     then_exact ks (omega arith) (word_exact ks 0 0 wd.Void refl)
-        (then_exact ks (omega arith) (ident_exact ks 0 0 refl)
-        (then_exact ks (omega arith) (sign_exact ks 0 0 sg.LeftParen refl)
-        (both_exact ks 0 0 2 (λ ps. ps ≢ []) (λ v. AreStmts (stmt_trees v.1.0)) params_row
-        (λ v. sign_mark 0 sg.LeftBrace ∷ (stmts 1 (stmt_trees v.1.0) ++ sign_mark 0 sg.RightBrace ∷ [])) Free Free Free Free (params_at ks)
-        (both (sign ks sg.LeftBrace) (both (stmts_in ks (stmt_at ks 64)) (sign ks sg.RightBrace))) (params_exact ks) (braced_exact ks)
-        (λ a b j e o s. tt))))
+    (then_exact ks (omega arith) (ident_exact ks 0 0 refl)
+    (then_exact ks (omega arith) (sign_exact ks 0 0 sg.LeftParen refl)
+    (both_exact ks 0 0 2 (λ ps. ps ≢ []) (λ v. AreStmts (stmt_trees v.1.0)) params_row
+    (λ v. sign_mark 0 sg.LeftBrace ∷ (stmts 1 (stmt_trees v.1.0) ++ sign_mark 0 sg.RightBrace ∷ [])) Free Free Free Free (params_at ks)
+    (both (sign ks sg.LeftBrace) (both (stmts_in ks (stmt_at ks 64)) (sign ks sg.RightBrace))) (params_exact ks) (braced_exact ks)
+    (λ a b j e o s. tt))))
 
 -- a kernel as its words and its row
 abbrev parts_of : Bool → Bool → Ident → List Param → StmtTrees → List Mark
@@ -75,15 +75,15 @@ parts_of t i x ps ss = word_if t 0 wd.Static ++ (word_if i 0 wd.Inline ++ row_ma
 kernel_parts : (f : KernelTree) → kernel f ≡ parts_of f.is_static f.is_inline f.name f.params f.body
 kernel_parts f =
     ap (λ z. word_if f.is_static 0 wd.Static ++
-        (word_if f.is_inline 0 wd.Inline ++ word_mark 0 wd.Void ∷ ident_mark 0 f.name ∷ sign_mark 0 sg.LeftParen ∷ z))
-        (sym (append_assoc (commas 0 (params f.params)) (sign_mark 0 sg.RightParen ∷ [])
-        (sign_mark 0 sg.LeftBrace ∷ (stmts 1 f.body ++ sign_mark 0 sg.RightBrace ∷ []))))
+    (word_if f.is_inline 0 wd.Inline ++ word_mark 0 wd.Void ∷ ident_mark 0 f.name ∷ sign_mark 0 sg.LeftParen ∷ z))
+    (sym (append_assoc (commas 0 (params f.params)) (sign_mark 0 sg.RightParen ∷ [])
+    (sign_mark 0 sg.LeftBrace ∷ (stmts 1 f.body ++ sign_mark 0 sg.RightBrace ∷ []))))
 
 parts_deep : (ks : List Kind) (t i : Bool) (n j m : ℕ) (row : List Mark) → Spans ks n (word_if t 0 wd.Static) j
     → Spans ks j (word_if i 0 wd.Inline) m → first_deep n (word_if t 0 wd.Static ++ (word_if i 0 wd.Inline ++ row)) ≡ first_deep m row
 parts_deep ks t i n j m row a b =
     deep_split ks n (word_if t 0 wd.Static) (word_if i 0 wd.Inline ++ row) j a
-        ∙ rw (word_if_deep t n wd.Static) (deep_split ks j (word_if i 0 wd.Inline) row m b ∙ rw (word_if_deep i j wd.Inline) refl)
+    ∙ rw (word_if_deep t n wd.Static) (deep_split ks j (word_if i 0 wd.Inline) row m b ∙ rw (word_if_deep i j wd.Inline) refl)
 
 kernel_is : (ks : List Kind) (n j m e : ℕ) (t i : Bool) (x : Ident) (ps : List Param) (ss : List StmtTree) (o : Option ℕ)
     → skipped ks wd.Static n ≡ (t, j) → skipped ks wd.Inline j ≡ (i, m)
@@ -105,12 +105,12 @@ kernel_complete ks f n e o s =
     let valid : AreStmts (stmt_trees ss) = subst AreStmts (sym same) o.1 in
     let r = (row_exact ks).complete (tt, (f.name, (tt, (f.params, (tt, (ss, tt)))))) b.0 e (o.0, valid) rowed tt in
     kernel_is ks n a.0 b.0 e f.is_static f.is_inline f.name f.params ss (first_deep b.0 (row_marks f.name f.params (stmt_trees ss)))
-        (skip_is ks wd.Static f.is_static n a.0 [] e a.1 (λ i. not_static f.is_inline i a.0 a.1 a.2))
-        (skip_is ks wd.Inline f.is_inline a.0 b.0 [] e b.1 (λ i. not_inline i a.0 b.0 b.1 b.2)) r
-        ∙ ap (λ (z : StmtTrees). after (first_deep b.0 (row_marks f.name f.params z))
-        (Ok (record { is_static = f.is_static; is_inline = f.is_inline; name = f.name; params = f.params; body = z }, e))) same
-        ∙ ap (λ z. after z (Ok (f, e)))
-        (sym (ap (first_deep n) (kernel_parts f) ∙ parts_deep ks f.is_static f.is_inline n a.0 b.0 row a.1 b.1))
+    (skip_is ks wd.Static f.is_static n a.0 [] e a.1 (λ i. not_static f.is_inline i a.0 a.1 a.2))
+    (skip_is ks wd.Inline f.is_inline a.0 b.0 [] e b.1 (λ i. not_inline i a.0 b.0 b.1 b.2)) r
+    ∙ ap (λ (z : StmtTrees). after (first_deep b.0 (row_marks f.name f.params z))
+    (Ok (record { is_static = f.is_static; is_inline = f.is_inline; name = f.name; params = f.params; body = z }, e))) same
+    ∙ ap (λ z. after z (Ok (f, e)))
+    (sym (ap (first_deep n) (kernel_parts f) ∙ parts_deep ks f.is_static f.is_inline n a.0 b.0 row a.1 b.1))
   where
     not_static : (i : Bool) → f.is_static ≡ false → (j : ℕ) → Spans ks n (word_if f.is_static 0 wd.Static) j
         → Spans ks j (word_if i 0 wd.Inline ++ row_marks f.name f.params f.body) e → word_is wd.Static (slice_get ks n) ≡ false

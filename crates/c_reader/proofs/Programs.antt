@@ -27,7 +27,7 @@ use Rattle.c_reader.proofs.Mains.{whole_complete, whole_sound, whole_far}
 pub printed : (ts : List Token) (p : ProgramTree) → Prints ts p → whole (kinds ts) (places ts) ≡ after (first_deep 0 (program p)) (Ok p)
 printed ts p h =
     subst (λ z. whole (kinds ts) z ≡ after (first_deep 0 (program p)) (Ok p)) h.places
-        (whole_complete (kinds ts) p h.grouped (spans_whole (kinds ts) 0 (program p) h.kinds h.numbered Rattle.std.proofs.Common.zero-le))
+    (whole_complete (kinds ts) p h.grouped (spans_whole (kinds ts) 0 (program p) h.kinds h.numbered Rattle.std.proofs.Common.zero-le))
 
 pub prints : (ts : List Token) (p : ProgramTree) → whole (kinds ts) (places ts) ≡ Ok p → Prints ts p
 prints ts p h =

@@ -63,17 +63,17 @@ module _ (ks : List Kind) {A : Type 0} (from size k : ℕ) (ok : A → Type 0) (
       let r = spans_split ks n (marks a) (sign_mark k t ∷ []) e s in
       let first = x.complete a n r.0 o.0 r.1 (last a r.0 r.2.0) in
       separated_last ks p t c n r.0 a (first_deep n (marks a)) first r.2.0 other
-          ∙ ap (λ (z : ℕ). after (first_deep n (marks a)) (Ok (a ∷ [], z))) r.2.2
-          ∙ ap (λ z. after z (Ok (a ∷ [], e))) (sym (deep_closed ks n (marks a) (sign_mark k t) r.0 r.1 fits))
+      ∙ ap (λ (z : ℕ). after (first_deep n (marks a)) (Ok (a ∷ [], z))) r.2.2
+      ∙ ap (λ z. after z (Ok (a ∷ [], e))) (sym (deep_closed ks n (marks a) (sign_mark k t) r.0 r.1 fits))
   separated_complete (a ∷ b ∷ xs) (suc c) n e i f o s =
       let s' = subst (λ z. Spans ks n z e) (row_more a b xs) s in
       let r = spans_split ks n (marks a) (sign_mark k sg.Comma ∷ row k marks t (b ∷ xs)) e s' in
       let first = x.complete a n r.0 o.0 r.1 (comma a r.0 r.2.0) in
       let more = separated_complete (b ∷ xs) c (suc r.0) e (λ z. (let q : ⊥ = cc in q)) (omega arith) o.1 r.2.2 in
       separated_goes ks p t c n r.0 e a (b ∷ xs) (first_deep n (marks a)) (first_deep (suc r.0) (row k marks t (b ∷ xs))) first r.2.0 more
-          ∙ ap (λ z. after z (Ok (a ∷ b ∷ xs, e)))
-          (sym (ap (first_deep n) (row_more a b xs) ∙ deep_between ks n (marks a) (sign_mark k sg.Comma) (row k marks t (b ∷ xs)) r.0 r.1
-          fits))
+      ∙ ap (λ z. after z (Ok (a ∷ b ∷ xs, e)))
+      (sym (ap (first_deep n) (row_more a b xs) ∙ deep_between ks n (marks a) (sign_mark k sg.Comma) (row k marks t (b ∷ xs)) r.0 r.1
+      fits))
 
   sep_join : (n j e : ℕ) (a : A) (xs : List A) → ok a → Spans ks n (marks a) j → first_deep n (marks a) ≡ None
       → slice_get ks j ≡ Some (kind.Sign sg.Comma) → Separated ks k ok marks t (suc j) xs e → Separated ks k ok marks t n (a ∷ xs) e

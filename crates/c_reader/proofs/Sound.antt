@@ -70,9 +70,16 @@ module _ (ks : List Kind) (rec : Rec) (k : ℕ) (finds : Finds ks (suc k) rec) (
           let inner = (finds 0 (suc (suc n)) zero-le i r.1).whole in
           let made : Fronts ks n k (Index (record { name = x; at = n }) i.0) t.0 = record {
             whole = record {
-              spans = (h, refl, (sign_found sign.LeftBracket (slice_get ks (suc n)) b, tt,
+              spans = (
+                h,
+                refl,
+                (
+                  sign_found sign.LeftBracket (slice_get ks (suc n)) b,
+                  tt,
                   spans_join ks (suc (suc n)) (expr (suc k) i.0) (sign_mark k sign.RightBracket ∷ []) i.1 t.0 inner.spans
-                  (c.0, tt, sym c.1)));
+                      (c.0, tt, sym c.1),
+                ),
+              );
               shallow = rw (fits, deep_closed ks (suc (suc n)) (expr (suc k) i.0) (sign_mark k sign.RightBracket) i.1 inner.spans fits) inner.shallow;
               grouped = inner.grouped;
             };
@@ -162,12 +169,23 @@ module _ (ks : List Kind) (rec : Rec) (k : ℕ) (finds : Finds ks (suc k) rec) (
       let ends : Spans ks (suc a.0.1) tail d.0 = spans_join ks (suc a.0.1) (expr (suc k) b.0.0) (sign_mark k sign.RightParen ∷ []) b.0.1 d.0 second.spans (dc.0, tt, sym dc.1) in
       let made : Fronts ks n k (Extremum w n a.0.0 b.0.0) d.0 = record {
         whole = record {
-          spans = (h ∙ ap (λ x. Some (kind.Word x)) (word_of_extremum s w l), refl,
-              (oc.0, tt, spans_join ks (suc (suc n)) (expr (suc k) a.0.0) (sign_mark k sign.Comma ∷ tail) a.0.1 d.0 first.spans
-              (cc'.0, tt, ends)));
-          shallow = rw (fits, deep_between ks (suc (suc n)) (expr (suc k) a.0.0) (sign_mark k sign.Comma) tail a.0.1 first.spans fits,
-              deep_closed ks (suc a.0.1) (expr (suc k) b.0.0) (sign_mark k sign.RightParen) b.0.1 second.spans fits, first.shallow,
-              second.shallow) refl;
+          spans = (
+            h ∙ ap (λ x. Some (kind.Word x)) (word_of_extremum s w l),
+            refl,
+            (
+              oc.0,
+              tt,
+              spans_join ks (suc (suc n)) (expr (suc k) a.0.0) (sign_mark k sign.Comma ∷ tail) a.0.1 d.0 first.spans
+                  (cc'.0, tt, ends),
+            ),
+          );
+          shallow = rw (
+            fits,
+            deep_between ks (suc (suc n)) (expr (suc k) a.0.0) (sign_mark k sign.Comma) tail a.0.1 first.spans fits,
+            deep_closed ks (suc a.0.1) (expr (suc k) b.0.0) (sign_mark k sign.RightParen) b.0.1 second.spans fits,
+            first.shallow,
+            second.shallow,
+          ) refl;
           grouped = (first.grouped, second.grouped);
         };
         strong = omega arith;
@@ -183,9 +201,16 @@ module _ (ks : List Kind) (rec : Rec) (k : ℕ) (finds : Finds ks (suc k) rec) (
       let first : Whole ks (suc (suc n)) (suc k) a.0.0 a.0.1 = subst (λ z. Whole ks z (suc k) a.0.0 a.0.1) oc.1 (finds 0 o.0 zero-le a.0 a.1).whole in
       let made : Fronts ks n k (Absolute n a.0.0) d.0 = record {
         whole = record {
-          spans = (h ∙ ap (λ x. Some (kind.Word x)) (word_of_absolute s l), refl,
-              (oc.0, tt, spans_join ks (suc (suc n)) (expr (suc k) a.0.0) (sign_mark k sign.RightParen ∷ []) a.0.1 d.0 first.spans
-              (dc.0, tt, sym dc.1)));
+          spans = (
+            h ∙ ap (λ x. Some (kind.Word x)) (word_of_absolute s l),
+            refl,
+            (
+              oc.0,
+              tt,
+              spans_join ks (suc (suc n)) (expr (suc k) a.0.0) (sign_mark k sign.RightParen ∷ []) a.0.1 d.0 first.spans
+                  (dc.0, tt, sym dc.1),
+            ),
+          );
           shallow = rw (fits, deep_closed ks (suc (suc n)) (expr (suc k) a.0.0) (sign_mark k sign.RightParen) a.0.1 first.spans fits) first.shallow;
           grouped = first.grouped;
         };
@@ -304,9 +329,13 @@ module _ (ks : List Kind) (rec : Rec) (k d : ℕ) (finds : Finds ks (suc k) rec)
           let made : Found ks 0 s k (Choice n l a.0.0 b.0.0) b.0.1 = record {
             whole = record {
               spans = spans_join ks s (expr k l) (named_sign k sign.Question n ∷ tail) n b.0.1 h.held.whole.spans (sign_found sign.Question (slice_get ks n) t, refl, ends);
-              shallow = rw (deep_between ks s (expr k l) (named_sign k sign.Question n) tail n h.held.whole.spans fits,
-                  deep_between ks (suc n) (expr (suc k) a.0.0) (sign_mark k sign.Colon) (expr (suc k) b.0.0) a.0.1 first.spans fits,
-                  h.held.whole.shallow, first.shallow, second.whole.shallow) refl;
+              shallow = rw (
+                deep_between ks s (expr k l) (named_sign k sign.Question n) tail n h.held.whole.spans fits,
+                deep_between ks (suc n) (expr (suc k) a.0.0) (sign_mark k sign.Colon) (expr (suc k) b.0.0) a.0.1 first.spans fits,
+                h.held.whole.shallow,
+                first.shallow,
+                second.whole.shallow,
+              ) refl;
               grouped = (h.held.lowest, h.held.whole.grouped, first.grouped, second.whole.grouped);
             };
             strong = zero-le;

@@ -33,9 +33,9 @@ pub condition_exact : (ks : List Kind) (f k d : ℕ) → suc k + d ≡ 65 → k 
 condition_exact ks f k d room before =
     let fits = level_fits k d (omega arith) in
     then_exact ks {from' = f + 1} (omega arith) (marked_exact ks f k wd.If fits)
-        (then_exact ks {from' = f + 1} (omega arith) (sign_exact ks (f + 1) k sg.LeftParen fits)
-        (needy_then ks (omega arith) (expr_exact ks (f + 1) k d room before) (sign_exact ks (f + 1) k sg.RightParen fits)
-        (λ a b j e s. (sg.RightParen, right_paren, s.0))))
+    (then_exact ks {from' = f + 1} (omega arith) (sign_exact ks (f + 1) k sg.LeftParen fits)
+    (needy_then ks (omega arith) (expr_exact ks (f + 1) k d room before) (sign_exact ks (f + 1) k sg.RightParen fits)
+    (λ a b j e s. (sg.RightParen, right_paren, s.0))))
 
 pub condition_complete : (ks : List Kind) (f k d : ℕ) → suc k + d ≡ 65 → k ≤ f + 1 → (at : ℕ) (x : ExprTree) (n e : ℕ) → IsGrouped x
     → Spans ks n (condition k at x) e → condition_at ks d n ≡ after (first_deep n (condition k at x)) (Ok (x, e))
@@ -106,21 +106,21 @@ behind_marks k y m z =
 pub front_exact : (ks : List Kind) (f k : ℕ) → nat_lt 64 k ≡ false → Exact ks f 7 Any (λ v. front_marks k v.0 v.1.1.1.0 v.1.1.1.1.1.0) Free Free (for_front ks)
 front_exact ks f k l =
     flat ks (marked_exact ks f k wd.For l)
-        (flat ks (sign_exact ks f k sg.LeftParen l)
-        (flat ks (word_exact ks f k wd.Int l)
-        (flat ks (ident_exact ks f k l)
-        (flat ks (sign_exact ks f k sg.Assign l) (flat ks (number_exact ks f k l) (sign_exact ks f k sg.Semicolon l))))))
+    (flat ks (sign_exact ks f k sg.LeftParen l)
+    (flat ks (word_exact ks f k wd.Int l)
+    (flat ks (ident_exact ks f k l)
+    (flat ks (sign_exact ks f k sg.Assign l) (flat ks (number_exact ks f k l) (sign_exact ks f k sg.Semicolon l))))))
 
 pub behind_exact : (ks : List Kind) (f k : ℕ) (x : Ident) → nat_lt 64 k ≡ false
     → Exact ks f 7 (λ v. (v.0.name ≡ x.name) × (v.1.1.1.1.0.name ≡ x.name)) (λ v. behind_marks k v.0 v.1.1.0 v.1.1.1.1.0) Free Free
     (for_behind ks x)
 behind_exact ks f k x l =
     both_exact ks f 1 _ _ _ _ _ _ _ _ _ _ _ (same_exact ks f k x l)
-        (then_exact ks {from' = f} (omega arith) (sign_exact ks (f + 1) k sg.Less l)
-        (then_exact ks {from' = f} (omega arith) (number_exact ks f k l)
-        (then_exact ks {from' = f} (omega arith) (sign_exact ks f k sg.Semicolon l)
-        (needy_then ks (omega arith) (same_exact ks f k x l) (flat ks (sign_exact ks f k sg.PlusPlus l) (sign_exact ks f k sg.RightParen l))
-        (λ a b j e s. tt))))) (λ a b j e o s. tt)
+    (then_exact ks {from' = f} (omega arith) (sign_exact ks (f + 1) k sg.Less l)
+    (then_exact ks {from' = f} (omega arith) (number_exact ks f k l)
+    (then_exact ks {from' = f} (omega arith) (sign_exact ks f k sg.Semicolon l)
+    (needy_then ks (omega arith) (same_exact ks f k x l) (flat ks (sign_exact ks f k sg.PlusPlus l) (sign_exact ks f k sg.RightParen l))
+    (λ a b j e s. tt))))) (λ a b j e o s. tt)
 
 pub for_is : (ks : List Kind) (n j e at : ℕ) (x y z : Ident) (a b : NumberLiteral) (p q : Option ℕ)
     → for_front ks n ≡ after p (Ok ((at, (tt, (tt, (x, (tt, (a, tt)))))), j))
@@ -138,9 +138,9 @@ header_complete ks f k l h n e o s =
     let back = behind_marks k h.tested h.to h.stepped in
     let r = spans_split ks n front back e s in
     for_is ks n r.0 e h.at h.name h.tested h.stepped h.from h.to (first_deep n front) (first_deep r.0 back)
-        ((front_exact ks f k l).complete (h.at, (tt, (tt, (h.name, (tt, (h.from, tt)))))) n r.0 tt r.1 tt)
-        ((behind_exact ks f k h.name l).complete (h.tested, (tt, (h.to, (tt, (h.stepped, (tt, tt)))))) r.0 e (o.0, o.1) r.2 tt)
-        ∙ ap (λ z. after z (Ok (h, e))) (sym (deep_split ks n front back r.0 r.1))
+    ((front_exact ks f k l).complete (h.at, (tt, (tt, (h.name, (tt, (h.from, tt)))))) n r.0 tt r.1 tt)
+    ((behind_exact ks f k h.name l).complete (h.tested, (tt, (h.to, (tt, (h.stepped, (tt, tt)))))) r.0 e (o.0, o.1) r.2 tt)
+    ∙ ap (λ z. after z (Ok (h, e))) (sym (deep_split ks n front back r.0 r.1))
 
 pub header_sound : (ks : List Kind) (f k : ℕ) → nat_lt 64 k ≡ false → (n : ℕ) (y : ForHeader × ℕ) → for_header_at ks n ≡ Ok y → Found ks IsForHeader (counter k) Free n y.0 y.1
 unfolding for_header_at
@@ -152,16 +152,33 @@ header_sound ks f k l n y h =
     let front = front_marks k a.0.0.0 a.0.0.1.1.1.0 a.0.0.1.1.1.1.1.0 in
     let back = behind_marks k b.0.0.0 b.0.0.1.1.0 b.0.0.1.1.1.1.0 in
     let made_ : Found ks IsForHeader (counter k) Free n
-        (record { at = a.0.0.0; name = a.0.0.1.1.1.0; from = a.0.0.1.1.1.1.1.0; tested = b.0.0.0; to = b.0.0.1.1.0; stepped =
-        b.0.0.1.1.1.1.0 }) b.0.1 = record {
+    (record {
+      at = a.0.0.0;
+      name = a.0.0.1.1.1.0;
+      from = a.0.0.1.1.1.1.1.0;
+      tested = b.0.0.0;
+      to = b.0.0.1.1.0;
+      stepped =
+          b.0.0.1.1.1.1.0;
+    }) b.0.1 = record {
       valid = (two.valid.0, two.valid.1);
       spans = spans_join ks n front back a.0.1 b.0.1 one.spans two.spans;
       shallow = deep_split ks n front back a.0.1 one.spans ∙ rw (one.shallow, two.shallow) refl;
       behind = tt;
     } in
     subst (λ (w : ForHeader × ℕ). Found ks IsForHeader (counter k) Free n w.0 w.1)
-        (ok_one (record { at = a.0.0.0; name = a.0.0.1.1.1.0; from = a.0.0.1.1.1.1.1.0; tested = b.0.0.0; to = b.0.0.1.1.0; stepped =
-        b.0.0.1.1.1.1.0 }, b.0.1) y b.2) made_
+    (ok_one (
+      record {
+        at = a.0.0.0;
+        name = a.0.0.1.1.1.0;
+        from = a.0.0.1.1.1.1.1.0;
+        tested = b.0.0.0;
+        to = b.0.0.1.1.0;
+        stepped =
+            b.0.0.1.1.1.1.0;
+      },
+      b.0.1,
+    ) y b.2) made_
 
 pub header_far : (ks : List Kind) (f k : ℕ) → nat_lt 64 k ≡ false → (n q : ℕ) → f ≤ n → for_header_at ks n ≡ Err (TooDeep q) → 64 ≤ q
 unfolding for_header_at

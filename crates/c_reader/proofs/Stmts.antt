@@ -134,9 +134,13 @@ module _ (ks : List Kind) (f k d : ℕ) (room : suc k + d ≡ 65) (before : k �
       stmt_some (Block at ss) = omega arith
       stmt_some (Empty at) = omega arith
       stmt_some (Assign a) =
-          omega (arith, place_some a.place, length-append (place (suc k) a.place)
-              (named_sign (suc k) (Rattle.c_tree.specs.Signs.assign_sign_of a.op) a.at
-              ∷ (expr (suc (suc k)) a.value ++ sign_mark (suc k) sg.Semicolon ∷ [])))
+          omega (
+            arith,
+            place_some a.place,
+            length-append (place (suc k) a.place)
+                (named_sign (suc k) (Rattle.c_tree.specs.Signs.assign_sign_of a.op) a.at
+                ∷ (expr (suc (suc k)) a.value ++ sign_mark (suc k) sg.Semicolon ∷ [])),
+          )
       stmt_some (If at c t) = omega arith
       stmt_some (IfElse at c t u) = omega arith
       stmt_some (For c t) = omega arith
@@ -147,10 +151,10 @@ module _ (ks : List Kind) (f k d : ℕ) (room : suc k + d ≡ 65) (before : k �
       let s' = subst (λ z. Spans ks n z e) (stmts_joined (suc k) ss) s in
       let valid = valid_list ss o in
       until_complete ks (f + 1) IsStmt (stmt (suc k)) (Needs ks) (Needs ks) rec x (λ m. sign_is sg.RightBrace (slice_get ks m)) (NoElse ks)
-          (λ a n e more o s. (let r = stmt_begins ks (suc k) n e a more o s in (r.no_brace, r.no_else))) (λ n h. brace_else n h)
-          (λ a n h u. h) (list_of ss) (length ks) n e
-          (omega (arith, stmts_long (list_of ss) n e valid s', slice_get_within ks e (kind.Sign sg.RightBrace) h)) valid s' (rw h refl)
-          ∙ ap (λ z. after z (Ok (list_of ss, e))) (ap (first_deep n) (sym (stmts_joined (suc k) ss)))
+      (λ a n e more o s. (let r = stmt_begins ks (suc k) n e a more o s in (r.no_brace, r.no_else))) (λ n h. brace_else n h)
+      (λ a n h u. h) (list_of ss) (length ks) n e
+      (omega (arith, stmts_long (list_of ss) n e valid s', slice_get_within ks e (kind.Sign sg.RightBrace) h)) valid s' (rw h refl)
+      ∙ ap (λ z. after z (Ok (list_of ss, e))) (ap (first_deep n) (sym (stmts_joined (suc k) ss)))
     where
       brace_else : (n : ℕ) → sign_is sg.RightBrace (slice_get ks n) ≡ true → NoElse ks n
       brace_else n h = rw (sign_found sg.RightBrace (slice_get ks n) h) refl
@@ -173,12 +177,12 @@ module _ (ks : List Kind) (f k d : ℕ) (room : suc k + d ≡ 65) (before : k �
       let rb = sign_mark k sg.RightBrace in
       let r = spans_split ks (suc n) (stmts (suc k) ss) (rb ∷ []) e s.2 in
       block_is ks d rec n at r.0 (list_of ss) (first_deep (suc n) (stmts (suc k) ss)) (sign_at_is ks sg.LeftBrace n s.0)
-          (block_complete ss (suc n) r.0 o r.1 r.2.0) (sign_at_is ks sg.RightBrace r.0 r.2.0) s.1
-          ∙ ap (λ z. after (first_deep (suc n) (stmts (suc k) ss)) (Ok (Block at z, suc r.0))) (trees_list ss)
-          ∙ ap (λ (z : ℕ). after (first_deep (suc n) (stmts (suc k) ss)) (Ok (Block at ss, z))) r.2.2
-          ∙ ap (λ z. after z (Ok (Block at ss, e)))
-          (sym (deep_over n (named_sign k sg.LeftBrace at) (stmts (suc k) ss ++ rb ∷ []) fits
-          ∙ deep_closed ks (suc n) (stmts (suc k) ss) rb r.0 r.1 fits))
+      (block_complete ss (suc n) r.0 o r.1 r.2.0) (sign_at_is ks sg.RightBrace r.0 r.2.0) s.1
+      ∙ ap (λ z. after (first_deep (suc n) (stmts (suc k) ss)) (Ok (Block at z, suc r.0))) (trees_list ss)
+      ∙ ap (λ (z : ℕ). after (first_deep (suc n) (stmts (suc k) ss)) (Ok (Block at ss, z))) r.2.2
+      ∙ ap (λ z. after z (Ok (Block at ss, e)))
+      (sym (deep_over n (named_sign k sg.LeftBrace at) (stmts (suc k) ss ++ rb ∷ []) fits
+      ∙ deep_closed ks (suc n) (stmts (suc k) ss) rb r.0 r.1 fits))
   led_complete (Empty at) n e o s h =
       let deep : first_deep n (stmt k (Empty at)) ≡ None = deep_over n (named_sign k sg.Semicolon at) [] fits in
       rw (sign_at_is ks sg.Semicolon n s.0, deep) (ap (λ (z : ℕ). Ok (Empty z, suc n)) (sym s.1) ∙ ap (λ (z : ℕ). Ok (Empty at, z)) s.2)
@@ -189,7 +193,7 @@ module _ (ks : List Kind) (f k d : ℕ) (room : suc k + d ≡ 65) (before : k �
       let one = condition_complete ks f k d room before at c n r.0 o.0 r.1 in
       let two = body_complete t r.0 e o.1 o.2 r.2 (λ z. h refl) in
       if_one ks d rec n at r.0 e c t (first_deep n (condition k at c)) (first_deep r.0 (stmt (suc k) t)) one two (h refl) s.1
-          ∙ ap (λ z. after z (Ok (If at c t, e))) (sym (deep_split ks n (condition k at c) (stmt (suc k) t) r.0 r.1))
+      ∙ ap (λ z. after z (Ok (If at c t, e))) (sym (deep_split ks n (condition k at c) (stmt (suc k) t) r.0 r.1))
   led_complete (IfElse at c t u) n e o s h =
       let tail = stmt (suc k) t ++ (word_mark k wd.Else ∷ stmt (suc k) u) in
       let r = spans_split ks n (condition k at c) tail e s in
@@ -198,16 +202,16 @@ module _ (ks : List Kind) (f k d : ℕ) (room : suc k + d ≡ 65) (before : k �
       let two = body_complete t r.0 q.0 o.1 o.2 q.1 (λ z. absurd (true≢false (sym z ∙ o.3))) in
       let three = body_complete u (suc q.0) e o.4 o.5 q.2.2 (λ z. h z) in
       if_both ks d rec n at r.0 q.0 e c t u (first_deep n (condition k at c)) (first_deep r.0 (stmt (suc k) t))
-          (first_deep (suc q.0) (stmt (suc k) u)) one two q.2.0 three s.1
-          ∙ ap (λ z. after z (Ok (IfElse at c t u, e)))
-          (sym (deep_split ks n (condition k at c) tail r.0 r.1
-          ∙ ap (or_else (first_deep n (condition k at c)))
-          (deep_between ks r.0 (stmt (suc k) t) (word_mark k wd.Else) (stmt (suc k) u) q.0 q.1 fits)))
+      (first_deep (suc q.0) (stmt (suc k) u)) one two q.2.0 three s.1
+      ∙ ap (λ z. after z (Ok (IfElse at c t u, e)))
+      (sym (deep_split ks n (condition k at c) tail r.0 r.1
+      ∙ ap (or_else (first_deep n (condition k at c)))
+      (deep_between ks r.0 (stmt (suc k) t) (word_mark k wd.Else) (stmt (suc k) u) q.0 q.1 fits)))
   led_complete (For c t) n e o s h =
       let r = spans_split ks n (counter k c) (stmt (suc k) t) e s in
       for_led ks d rec n r.0 e c t (first_deep n (counter k c)) (first_deep r.0 (stmt (suc k) t))
-          (header_complete ks f k fits c n r.0 o.0 r.1) (body_complete t r.0 e o.1 o.2 r.2 (λ z. h z))
-          ∙ ap (λ z. after z (Ok (For c t, e))) (sym (deep_split ks n (counter k c) (stmt (suc k) t) r.0 r.1))
+      (header_complete ks f k fits c n r.0 o.0 r.1) (body_complete t r.0 e o.1 o.2 r.2 (λ z. h z))
+      ∙ ap (λ z. after z (Ok (For c t, e))) (sym (deep_split ks n (counter k c) (stmt (suc k) t) r.0 r.1))
 
   abbrev FoundAt : ℕ → StmtTree × ℕ → Type 0
   FoundAt n y = Found ks IsStmt (stmt k) (Needs ks) n y.0 y.1
@@ -283,10 +287,10 @@ module _ (ks : List Kind) (f k d : ℕ) (room : suc k + d ≡ 65) (before : k �
       let g = sign_at_ok ks sg.LeftBrace n o.0 o.1 in
       let u = sign_at_ok ks sg.RightBrace b.0.1 c.0 c.1 in
       let r : AreStmts (stmt_trees b.0.0) ×
-          (Spans ks (suc n) (stmts (suc k) (stmt_trees b.0.0)) b.0.1 × (first_deep (suc n) (stmts (suc k) (stmt_trees b.0.0)) ≡ None)) =
-          subst (λ z. AreStmts (stmt_trees b.0.0) ×
-          (Spans ks z (stmts (suc k) (stmt_trees b.0.0)) b.0.1 × (first_deep z (stmts (suc k) (stmt_trees b.0.0)) ≡ None))) g.1
-          (block_sound o.0 b.0 b.1) in
+      (Spans ks (suc n) (stmts (suc k) (stmt_trees b.0.0)) b.0.1 × (first_deep (suc n) (stmts (suc k) (stmt_trees b.0.0)) ≡ None)) =
+      subst (λ z. AreStmts (stmt_trees b.0.0) ×
+      (Spans ks z (stmts (suc k) (stmt_trees b.0.0)) b.0.1 × (first_deep z (stmts (suc k) (stmt_trees b.0.0)) ≡ None))) g.1
+      (block_sound o.0 b.0 b.1) in
       let rb = sign_mark k sg.RightBrace in
       let made_ : FoundAt n (Block n (stmt_trees b.0.0), c.0) = record {
         valid = r.0;
@@ -365,8 +369,12 @@ module _ (ks : List Kind) (f k d : ℕ) (room : suc k + d ≡ 65) (before : k �
       stmt_some (Block at ss) = omega arith
       stmt_some (Empty at) = omega arith
       stmt_some (Assign a) =
-          omega (arith, place_some a.place, length-append (place k a.place)
-              (named_sign k (Rattle.c_tree.specs.Signs.assign_sign_of a.op) a.at ∷ (expr (suc k) a.value ++ sign_mark k sg.Semicolon ∷ [])))
+          omega (
+            arith,
+            place_some a.place,
+            length-append (place k a.place)
+                (named_sign k (Rattle.c_tree.specs.Signs.assign_sign_of a.op) a.at ∷ (expr (suc k) a.value ++ sign_mark k sg.Semicolon ∷ [])),
+          )
       stmt_some (If at c t) = omega arith
       stmt_some (IfElse at c t u) = omega arith
       stmt_some (For c t) = omega arith

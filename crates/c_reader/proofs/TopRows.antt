@@ -163,8 +163,8 @@ param_sound ks n y h =
     let v = bind_ok (param_row ks c.1) _ y h in
     let g = (param_row_exact ks).sound c.1 v.0 v.1 in
     subst (λ (w : Param × ℕ). Spans ks n (param w.0) w.1) (ok_one (record { is_const = c.0; name = v.0.0.1.1 }, v.0.1) y v.2)
-        (spans_join ks n (word_if c.0 0 wd.Const) (word_mark 0 wd.Int ∷ sign_mark 0 sg.Star ∷ ident_mark 0 v.0.0.1.1 ∷ []) c.1 v.0.1
-        (skip_spans ks wd.Const n) g.spans)
+    (spans_join ks n (word_if c.0 0 wd.Const) (word_mark 0 wd.Int ∷ sign_mark 0 sg.Star ∷ ident_mark 0 v.0.0.1.1 ∷ []) c.1 v.0.1
+    (skip_spans ks wd.Const n) g.spans)
 
 param_far : (ks : List Kind) (n q : ℕ) → param_at ks n ≡ Err (TooDeep q) → 64 ≤ q
 unfolding param_at
@@ -205,9 +205,14 @@ params_exact ks = record {
   complete = λ ps n e o s h.
       (let s' = subst (λ z. Spans ks n z e) (params_row_is ps) s in
       separated_complete ks 0 1 0 Any param Free Free (param_at ks) sg.RightParen (param_exact ks) refl refl (λ a n h. tt) (λ a n h. tt) ps
-          (length ks) n e o (omega (arith, spans_end ks n (row 0 param sg.RightParen ps) e s',
-          length-append (commas 0 (each param ps)) (sign_mark 0 sg.RightParen ∷ []), commas_long ps, ended ps n e s')) (all_any ps) s'
-          ∙ ap (λ z. after z (Ok (ps, e))) (sym (ap (first_deep n) (params_row_is ps))));
+      (length ks) n e o (omega (
+        arith,
+        spans_end ks n (row 0 param sg.RightParen ps) e s',
+        length-append (commas 0 (each param ps)) (sign_mark 0 sg.RightParen ∷ []),
+        commas_long ps,
+        ended ps n e s',
+      )) (all_any ps) s'
+      ∙ ap (λ z. after z (Ok (ps, e))) (sym (ap (first_deep n) (params_row_is ps))));
   sound = λ n y h.
       (let r = separated_sound ks 0 1 0 Any param Free Free (param_at ks) sg.RightParen (param_exact ks) refl refl (λ a n h. tt) (λ a n h. tt) (length ks) n y h in
       record {

@@ -6,8 +6,8 @@ ghost use Rattle.c_tree.specs.Reads.{shown};
 
 use crate::put_hosts::put_main;
 use crate::put_tops::put_tops;
-use c_tree::lexer::Kind;
 use c_tree::Program;
+use c_tree::lexer::Kind;
 use op_num::OutOfMemory;
 use std::alloc::Global;
 

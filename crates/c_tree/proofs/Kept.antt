@@ -23,8 +23,8 @@ all_below n total (m ∷ ms) a h =
 pub numbers_have_places : (bytes : List ℕ) (p : ProgramTree) → Reads bytes p → All (λ m. IsBelow (length p.places) m.number) (program p)
 numbers_have_places bytes p r =
     let counted : length (program p) ≡ length p.places = sym (length-map (program p) (λ m. m.kind))
-        ∙ (ap length r.prints.kinds ∙ (length-map r.tokens (λ t. t.kind)
-        ∙ (sym (length-map r.tokens (λ t. t.at)) ∙ ap length (sym r.prints.places)))) in
+    ∙ (ap length r.prints.kinds ∙ (length-map r.tokens (λ t. t.kind)
+    ∙ (sym (length-map r.tokens (λ t. t.at)) ∙ ap length (sym r.prints.places)))) in
     all_below 0 (length p.places) (program p) r.prints.numbered (omega arith)
 
 module _ (in_order : (bytes : List ℕ) (tokens : List Token) → Lexes bytes (Ok tokens) → AreInOrder (map (λ t. t.at) tokens)) where

@@ -11,8 +11,8 @@ ghost use Rattle.c_tree.specs.View.{expr_of};
 
 use crate::expressions::Expr;
 use crate::hosts::GlobalName;
-use crate::programs::Program;
 use crate::lexer::{Pos, tokens_in_order};
+use crate::programs::Program;
 
 /// The place of the token with this number, among the places of all. Line and column are 0 where there is no such
 /// token.

@@ -12,9 +12,9 @@ ghost use Rattle.cell_numbers.specs.Shown.{IsOnRanks, IsFreeRun};
 
 use bound_program::{Bound, Item};
 use colouring::block_plan::block_of;
-use partition::distribute::Distribution;
 use loop_plan::{Plan, SitePlan};
 use op_num::OutOfMemory;
+use partition::distribute::Distribution;
 use std::alloc::Global;
 
 // Whether an item runs a loop as a Free one.

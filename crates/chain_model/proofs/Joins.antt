@@ -63,16 +63,18 @@ module _ {F : Type 0} (g : Given F) (j : ℕ) (does : g.p.program.kind (suc j) �
       ap (λ s. st.partials r s v) (sym after_free.1)
       ∙ (b.parts go r lr (g.p.program.site (suc j)) v
       ∙ (cond-true (is_reduce (g.p.program.kind (suc j)) && (g.p.program.site (suc j) == g.p.program.site (suc j)))
-          (part g (source g.p (suc j)) r (elements g.p.program (source g.p (suc j))) v) (unit_at (g.p.reduces (g.p.program.site (suc j)) v))
+      (part g (source g.p (suc j)) r (elements g.p.program (source g.p (suc j))) v) (unit_at (g.p.reduces (g.p.program.site (suc j)) v))
       (and_from (is_reduce (g.p.program.kind (suc j))) (g.p.program.site (suc j) == g.p.program.site (suc j)) (ap is_reduce does) (eq-eqb (g.p.program.site (suc j)) (g.p.program.site (suc j)) refl))
       ∙ ap (λ i. part g i r (elements g.p.program i) v) (source_reduce g.p j does)))
 
   marks : (n e : ℕ) → e < elements g.p.program j
       → ((below n e ≡ true) × (owns g j n e ≡ false) × (below (suc n) e ≡ true)) ⊎ ((below n e ≡ false) × (owns g j n e ≡ below (suc n) e))
   marks n e l = ⊎_elim
-      (λ (lt : g.p.owner (g.p.program.set j) e < n). inl
-          (lt-ltb (g.p.owner (g.p.program.set j) e) n lt, ne_eqb (g.p.owner (g.p.program.set j) e) n (λ i. omega arith),
-          lt-ltb (g.p.owner (g.p.program.set j) e) (suc n) (omega arith)))
+      (λ (lt : g.p.owner (g.p.program.set j) e < n). inl (
+        lt-ltb (g.p.owner (g.p.program.set j) e) n lt,
+        ne_eqb (g.p.owner (g.p.program.set j) e) n (λ i. omega arith),
+        lt-ltb (g.p.owner (g.p.program.set j) e) (suc n) (omega arith),
+      ))
       (λ (ge : n ≤ g.p.owner (g.p.program.set j) e). inr (
         le-ltb (g.p.owner (g.p.program.set j) e) n ge,
         ⊎_elim
@@ -90,9 +92,9 @@ module _ {F : Type 0} (g : Given F) (j : ℕ) (does : g.p.program.kind (suc j) �
       ∙ (folded_merge (elements g.p.program j) (owns g j n) (makes g j (Variable v))
       (merge_at (op v) (made_below v n)) (unit_at (op v)) (made_below v n)
       (merge_unit g.p g.q (op v) (made_below v n)
-          (subst Good (merged_is v n (omega arith))
-          (good_merged g (op v) (parts_of v) n (first v) (λ r. b.sane.parts r (g.p.program.site j) v)
-          (good_store g.p g.q j going_j (Variable v)))))
+      (subst Good (merged_is v n (omega arith))
+      (good_merged g (op v) (parts_of v) n (first v) (λ r. b.sane.parts r (g.p.program.site j) v)
+      (good_store g.p g.q j going_j (Variable v)))))
       (λ e x l. merge_amount g.p g.q j e (store_at g.p j) v (made_below v n) x after_free.0 l)
       ∙ folded_union (elements g.p.program j) (elements g.p.program j) (below n) (owns g j n) (below (suc n)) (makes g j (Variable v)) (first v)
       (omega arith) (commutes g.p g.q j (store_at g.p j) (Variable v) after_free.0) (λ e l. marks n e l)))
@@ -153,7 +155,7 @@ module _ {F : Type 0} (g : Given F) (k : ℕ) (low : k < g.p.program.items) (joi
     parts = λ y r lr s v.
         parts r lr s v
         ∙ sym (cond-false (is_reduce (g.p.program.kind (suc k)) && (s == g.p.program.site (suc k)))
-            (part g (source g.p (suc k)) r (elements g.p.program (source g.p (suc k))) v) (unit_at (g.p.reduces s v))
+        (part g (source g.p (suc k)) r (elements g.p.program (source g.p (suc k))) v) (unit_at (g.p.reduces s v))
         (ap (λ x. x && (s == g.p.program.site (suc k))) not_reduce_next));
   }
 
@@ -205,7 +207,7 @@ module _ {F : Type 0} (g : Given F) (k : ℕ) (low : k < g.p.program.items) (joi
   goes_loop t good od go n = after_join (spread (chains g) t st) (good_spread t good) b.running refl (ap is_going n) (b.told ∙ ap output_of (sym n))
       (λ r lr x o. has_same (λ d y. cond (pair_owner (chains g) d y == r) (Some (pair_values t d y)) (st.stores r d y)) x (t (Data x)) (store_at g.p (suc k) (Data x))
       (some_is (pair_owner (chains g) x.dat x.element == r) (pair_values t x.dat x.element) (st.stores r x.dat x.element) x.component
-          (t (Data x)) (eq-eqb (pair_owner (chains g) x.dat x.element) r o) refl)
+      (t (Data x)) (eq-eqb (pair_owner (chains g) x.dat x.element) r o) refl)
       (ap (λ s. store_of s (Data x)) (sym n)))
       (λ v. ap (λ s. store_of s (Variable v)) (sym n))
       (units (ap is_reduce od) go)

@@ -165,13 +165,13 @@ module _ {F : Type 0} (g : Given F) (k : ℕ) (free : g.p.program.kind k ≡ Fre
       (d.here v
       ∙ (ap (λ j. part g j r (elements g.p.program j) v) (sym (source_reduce g.p k reduces))
       ∙ sym (cond-true (is_reduce (g.p.program.kind (suc k)) && (g.p.program.site k == g.p.program.site (suc k)))
-          (part g (source g.p (suc k)) r (elements g.p.program (source g.p (suc k))) v) (unit_at (g.p.reduces (g.p.program.site k) v))
+      (part g (source g.p (suc k)) r (elements g.p.program (source g.p (suc k))) v) (unit_at (g.p.reduces (g.p.program.site k) v))
       (and_from (is_reduce (g.p.program.kind (suc k))) (g.p.program.site k == g.p.program.site (suc k)) (ap is_reduce reduces)
-          (eq-eqb (g.p.program.site k) (g.p.program.site (suc k)) (sym after.1)))))))
+      (eq-eqb (g.p.program.site k) (g.p.program.site (suc k)) (sym after.1)))))))
       (λ (ne : s ≡ g.p.program.site k → ⊥).
       d.others s v ne
       ∙ sym (cond-false (is_reduce (g.p.program.kind (suc k)) && (s == g.p.program.site (suc k)))
-          (part g (source g.p (suc k)) r (elements g.p.program (source g.p (suc k))) v) (unit_at (g.p.reduces s v))
+      (part g (source g.p (suc k)) r (elements g.p.program (source g.p (suc k))) v) (unit_at (g.p.reduces s v))
       (and_right (is_reduce (g.p.program.kind (suc k))) (s == g.p.program.site (suc k)) (ne_eqb s (g.p.program.site (suc k)) (λ e. ne (e ∙ after.1))))))
       (cases_eq s (g.p.program.site k))
 
@@ -184,7 +184,7 @@ module _ {F : Type 0} (g : Given F) (k : ℕ) (free : g.p.program.kind k ≡ Fre
       (λ (ne : s ≡ g.p.program.site k → ⊥). d.others s v ne)
       (cases_eq s (g.p.program.site k))
       ∙ sym (cond-false (is_reduce (g.p.program.kind (suc k)) && (s == g.p.program.site (suc k)))
-          (part g (source g.p (suc k)) r (elements g.p.program (source g.p (suc k))) v) (unit_at (g.p.reduces s v))
+      (part g (source g.p (suc k)) r (elements g.p.program (source g.p (suc k))) v) (unit_at (g.p.reduces s v))
       (ap (λ x. x && (s == g.p.program.site (suc k))) unset))
 
   parts_next : (st : ChainState F) (r : ℕ) → Doing g k r (elements g.p.program k) st → (s : ℕ) (v : VarCell) → st.partials r s v ≡ part_before g (suc k) r s v

@@ -50,7 +50,7 @@ one_more b o site sites old new runs ranges fits h pairs executing reading = rec
       ∙ (ap (λ z. z || any_below (set_size b.mesh site.set) (λ e. has_at runs e r && list_any (reads_pair b d y e) site.args)) (h.has d y r ld ly)
       ∙ ap (λ z. needs_before b o r sites d y || z)
       (any_agree (set_size b.mesh site.set) (λ e. has_at runs e r && list_any (reads_pair b d y e) site.args)
-          (λ e. executes_for b o r (needs_before b o r sites) site e && list_any (reads_pair b d y e) site.args)
+      (λ e. executes_for b o r (needs_before b o r sites) site e && list_any (reads_pair b d y e) site.args)
       (λ e l. ap (λ z. z && list_any (reads_pair b d y e) site.args)
       (executing e r l ∙ executes_same b ranges (pairs_of old r) (needs_before b o r sites) (λ d2 y2 l2 m2. h.has d2 y2 r l2 m2) o r site e fits l))));
 }

@@ -15,9 +15,9 @@ ghost use Rattle.chain_needs.specs.FreeSites.{free_site_of};
 use crate::executing::executing_all;
 use crate::needing::needed_before;
 use bound_program::{Bound, Item};
+use local_mesh::rank_sets::RankSet;
 use mesh_decl::Owners;
 use op_num::OutOfMemory;
-use local_mesh::rank_sets::RankSet;
 use std::alloc::Global;
 
 // The number of the loop of an item, where it is Free.

@@ -13,9 +13,9 @@ ghost use Rattle.chain_needs.specs.PairSets.{ArePairSets, ArgLeads, pairs_of};
 use crate::reaching::{element_of, ranks_at};
 use crate::sites::{args_of, set_of};
 use bound_program::{Access, Arg, Bound, is_access};
+use local_mesh::rank_sets::RankSet;
 use mesh_decl::Owners;
 use op_num::OutOfMemory;
-use local_mesh::rank_sets::RankSet;
 use std::alloc::Global;
 
 // The ranks of the pair that an element reaches by an argument other than OP_READ.

@@ -11,9 +11,9 @@ use crate::executing::executing_all;
 use crate::owning::own_sets;
 use crate::reading::read_dats;
 use bound_program::Bound;
+use local_mesh::rank_sets::RankSet;
 use mesh_decl::Owners;
 use op_num::OutOfMemory;
-use local_mesh::rank_sets::RankSet;
 use std::alloc::Global;
 
 // From what is needed behind a loop to what is needed before it.

@@ -10,9 +10,9 @@ ghost use Rattle.chain_model.specs.Slices.{owns_pair};
 ghost use Rattle.chain_needs.specs.PairSets.{ArePairSets};
 
 use bound_program::Bound;
+use local_mesh::rank_sets::RankSet;
 use mesh_decl::Owners;
 use op_num::OutOfMemory;
-use local_mesh::rank_sets::RankSet;
 use std::alloc::Global;
 
 // The owner of each pair of a dat.

@@ -248,7 +248,7 @@ module _ (b : BoundValue) where
     assigned_alike c op op_at e (Err f) = refl
     assigned_alike c op op_at e (Ok x) =
         subst (λ y. HostAlike (on_value Halts (stored op op_at (s (Variable c)) x) (λ z. Goes (with_cell c z (variables_of s)) []))
-            (on_value Halts (stored op op_at y x) (λ z. Goes (with_cell c z (variables_of t)) []))) e
+        (on_value Halts (stored op op_at y x) (λ z. Goes (with_cell c z (variables_of t)) []))) e
         (store_alike c (stored op op_at (s (Variable c)) x))
 
     index_alike : (v : ℕ) (op : AssignOp) (op_at : Pos) (e : RExprTree) → v < length b.vars → (r : Result ℕ KernelFault) → ((i : ℕ) → r ≡ Ok i → i < var_width b v)
@@ -277,8 +277,8 @@ module _ (b : BoundValue) where
     act_alike (Clear v) f = ((λ c h. ap (λ z. if nat_eq c.variable v then pos 0 else z) (same (Variable c) h)), refl)
     act_alike (Assign v index op op_at e at) f =
         subst (λ r. HostAlike (assigned b s v index op op_at e at)
-            (on_value Halts r (λ i. on_value Halts (value_of b t e)
-            (λ x. on_value Halts (stored op op_at (t (Variable (record { variable = v; component = i }))) x)
+        (on_value Halts r (λ i. on_value Halts (value_of b t e)
+        (λ x. on_value Halts (stored op op_at (t (Variable (record { variable = v; component = i }))) x)
         (λ z. Goes (with_cell (record { variable = v; component = i }) z (variables_of t)) []))))) (component_alike (var_at b v) at index)
         (index_alike v op op_at e f.0 (component_of b s (var_at b v) at index) (component_there v at index f.1))
     act_alike (Line text es) f =

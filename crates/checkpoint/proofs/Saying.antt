@@ -53,7 +53,7 @@ module _ (c : BoundValue) (s : Store) where
   all_said (x ∷ xs) j o w le left says at =
       let long : length c.trace - j ≡ suc (length xs) = sym (length-drop j c.trace) ∙ ap length left in
       let here : item_at c j ≡ x = (let e : j ≡ j + 0 = omega arith in ap (λ n. get_or c.trace n (values.Host Exit)) e)
-          ∙ sym (get_or-drop j c.trace 0 (values.Host Exit)) ∙ ap (λ (l : List ItemValue). get_or l 0 (values.Host Exit)) left in
+      ∙ sym (get_or-drop j c.trace 0 (values.Host Exit)) ∙ ap (λ (l : List ItemValue). get_or l 0 (values.Host Exit)) left in
       let next : seq p (suc j) ≡ Going s (o ++ says.0) = ap (after_item p j) at ∙ one_said j o x says.0 here says.2 in
       let more : drop (suc j) c.trace ≡ xs = (let e : suc j ≡ j + 1 = omega arith in ap (λ n. drop n c.trace) e) ∙ sym (drop-drop 1 j c.trace) ∙ ap (drop 1) left in
       all_said xs (suc j) (o ++ says.0) says.1 (let l : suc j ≤ length c.trace = omega (arith, long, le) in l) more says.3 next

@@ -151,8 +151,11 @@ module _ (b : BoundValue) (s : StateValue) (shape : HasShape b s) where
   via_moved t d (Some v) h = (h.0, h.1, h.2 ∙ sym (set d), h.3)
 
   arg_moved : (t : ℕ) (x : Arg) → ArgFits b t x → ArgFits c t x
-  arg_moved t (Dat d v a) h = ((let l : d < dat_count c.mesh = omega (arith, h.0, dats) in l),
-      (let l : dat_dim c.mesh d ≤ max_dim = subst (λ n. n ≤ max_dim) (sym (dim d)) h.1 in l), via_moved t d v h.2)
+  arg_moved t (Dat d v a) h = (
+    (let l : d < dat_count c.mesh = omega (arith, h.0, dats) in l),
+    (let l : dat_dim c.mesh d ≤ max_dim = subst (λ n. n ≤ max_dim) (sym (dim d)) h.1 in l),
+    via_moved t d v h.2,
+  )
   arg_moved t (Global v a) h = (
     (let l : v < length c.vars = omega (arith, h.0, many) in l),
     (let l : 0 < length (var_at c v).start = omega (arith, h.1, wide v) in l),

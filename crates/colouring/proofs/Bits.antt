@@ -1,4 +1,4 @@
-use Rattle.std.proofs.Common.{◌≡◌, ℕ, ◌+◌, ◌*◌, ◌/◌, ◌%◌, ◌^◌, ◌<◌, ◌≤◌, max, sym, ap, subst, ◌∙◌, arith, ⊎_elim, inl, inr, List, get_or}
+use Rattle.std.proofs.Common.{◌≡◌, ℕ, ◌+◌, ◌*◌, ◌%◌, ◌^◌, ◌<◌, ◌≤◌, max, sym, ap, subst, ◌∙◌, arith, ⊎_elim, inl, inr, List, get_or}
 use Rattle.std.specs.Prelude.{◌↔◌, ◌⊎◌, bit_or}
 use Rattle.std.specs.Int.{bit_at, w32}
 use Rattle.std.proofs.lemmas.Bool.{cases_eq}
@@ -8,9 +8,10 @@ pub or_iff : (a m b : ℕ) → (bit_at (bit_or a m) b ≡ 1) ↔ ((bit_at a b �
 or_iff a m b =
     let o : bit_at (bit_or a m) b ≡ max (bit_at a b) (bit_at m b) = bit_at_or a m b in
     let x : bit_at a b < 2 = bit_at-lt a b in
-    let y : bit_at m b < 2 = bit_at-lt m b in
-    ((λ h. ⊎_elim (λ (e : bit_at a b ≡ 1). inl e) (λ (ne : bit_at a b ≡ 1 → ⊥). inr (omega arith)) (cases_eq (bit_at a b) 1)),
-        (λ h. ⊎_elim (λ (e : bit_at a b ≡ 1). omega arith) (λ (e : bit_at m b ≡ 1). omega arith) h))
+    let y : bit_at m b < 2 = bit_at-lt m b in (
+      (λ h. ⊎_elim (λ (e : bit_at a b ≡ 1). inl e) (λ (ne : bit_at a b ≡ 1 → ⊥). inr (omega arith)) (cases_eq (bit_at a b) 1)),
+      (λ h. ⊎_elim (λ (e : bit_at a b ≡ 1). omega arith) (λ (e : bit_at m b ≡ 1). omega arith) h),
+    )
 
 pub joined_step : (f : ℕ → ℕ) (ts : List ℕ) (all start k : ℕ) → start ≤ k
     → ((b : ℕ) → (bit_at all b ≡ 1) ↔ ((x : ℕ) × (start ≤ x) × (x < k) × (bit_at (f (get_or ts x 0)) b ≡ 1))) → (b : ℕ)
@@ -56,9 +57,11 @@ given_one old new target number bit within here apart t v b = ⊎_elim
     (cases_eq t target)
   where
     other : (t ≡ target → v ≡ number → ⊥) → (bit_at (new t v) b ≡ 1) ↔ ((bit_at (old t v) b ≡ 1) ⊎ ((t ≡ target) × (v ≡ number) × (b ≡ bit)))
-    other differ = ((λ z. inl (ap (λ y. bit_at y b) (sym (apart t v differ)) ∙ z)),
-        (λ z. ap (λ y. bit_at y b) (apart t v differ) ∙ ⊎_elim (λ (q : bit_at (old t v) b ≡ 1). q)
-        (λ (q : (t ≡ target) × (v ≡ number) × (b ≡ bit)). absurd (differ q.0 q.1)) z))
+    other differ = (
+      (λ z. inl (ap (λ y. bit_at y b) (sym (apart t v differ)) ∙ z)),
+      (λ z. ap (λ y. bit_at y b) (apart t v differ) ∙ ⊎_elim (λ (q : bit_at (old t v) b ≡ 1). q)
+          (λ (q : (t ≡ target) × (v ≡ number) × (b ≡ bit)). absurd (differ q.0 q.1)) z),
+    )
 
 pub full_mask : (m : ℕ) → m ≡ 4294967295 → (b : ℕ) → b < 32 → bit_at m b ≡ 1
 full_mask m e b lt = ap (λ z. bit_at z b) e ∙ bit_at_ones 32 b lt

@@ -35,9 +35,12 @@ module _ (g : MeshValue) (maps : List (Vec ℕ Global)) (args : List IncArg) (pl
       (cases_eq (p / size) (q / size))
     where
       in_block : (x : ℕ) → x < places → IsInBlock places size (x / size) x
-      in_block x l = (div-mul-le_self x size,
-          (let z : x < x / size * size + size = lt-div-mul-add {a = x} {b = size} some in
-          let u : (x / size + 1) * size ≡ x / size * size + 1 * size = add-mul (x / size) 1 size in omega arith), l)
+      in_block x l = (
+        div-mul-le_self x size,
+        (let z : x < x / size * size + size = lt-div-mul-add {a = x} {b = size} some in
+            let u : (x / size + 1) * size ≡ x / size * size + 1 * size = add-mul (x / size) 1 size in omega arith),
+        l,
+      )
 
       inner_differ : p / size ≡ q / size → get_or c.inner.items p 0 ≢ get_or c.inner.items q 0
       inner_differ e = ⊎_elim
@@ -49,13 +52,13 @@ module _ (g : MeshValue) (maps : List (Vec ℕ Global)) (args : List IncArg) (pl
       by_inner x y e l =
           or_right (nat_lt (get_or c.blocks.items (x / size) 0) (get_or c.blocks.items (y / size) 0)) ((x / size == y / size) && nat_lt (get_or c.inner.items x 0) (get_or c.inner.items y 0))
           (and_from (x / size == y / size) (nat_lt (get_or c.inner.items x 0) (get_or c.inner.items y 0)) (eq-eqb (x / size) (y / size) e)
-              (lt-ltb (get_or c.inner.items x 0) (get_or c.inner.items y 0) l))
+          (lt-ltb (get_or c.inner.items x 0) (get_or c.inner.items y 0) l))
 
       by_block : (x y : ℕ) → get_or c.blocks.items (x / size) 0 < get_or c.blocks.items (y / size) 0 → goes_before c size x y ≡ true
       by_block x y l =
           or_left (nat_lt (get_or c.blocks.items (x / size) 0) (get_or c.blocks.items (y / size) 0))
-              ((x / size == y / size) && nat_lt (get_or c.inner.items x 0) (get_or c.inner.items y 0))
-              (lt-ltb (get_or c.blocks.items (x / size) 0) (get_or c.blocks.items (y / size) 0) l)
+          ((x / size == y / size) && nat_lt (get_or c.inner.items x 0) (get_or c.inner.items y 0))
+          (lt-ltb (get_or c.blocks.items (x / size) 0) (get_or c.blocks.items (y / size) 0) l)
 
 -- by an outline with these colours, one goes before the other where it does by the colours
 pub by_outline : (o : Outline) (k r : ℕ) (place : ℕ → ℕ) (size : ℕ) (c : Colours) → IsOutlined o k r place size c → (e f : ℕ) → by_colour o k r e f ≡ goes_before c size (place e) (place f)

@@ -1,5 +1,5 @@
 -- What the values of the options mean.
-use Rattle.std.specs.Prelude.{ℕ, ◌^◌, Bool, true, false, not, ◌&&◌, nat_lt, nat_eq, List, Option, Some, None, codes, if◌then◌else◌, option_and_then, option_map, is_some, length, take, drop}
+use Rattle.std.specs.Prelude.{ℕ, ◌^◌, Bool, false, not, ◌&&◌, nat_lt, nat_eq, List, Option, Some, None, codes, if◌then◌else◌, option_and_then, option_map, is_some, length, take, drop}
 use Rattle.std.specs.Str.{bytes_eq}
 use Rattle.clap.specs.Walk.{Row, first_of}
 use Rattle.op_num.specs.Spelling.{number_of}

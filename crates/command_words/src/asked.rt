@@ -6,8 +6,8 @@ ghost use Rattle.command_words.specs.Values.{options_in};
 
 use crate::limits::MAX_GROUP;
 use crate::sides::Side;
-use partition::distribute::Parts;
 use mesh_decl::text::Form;
+use partition::distribute::Parts;
 
 /// What is done with a plan.
 #[derive(Clone, Copy, PartialEq, Eq, Debug)]

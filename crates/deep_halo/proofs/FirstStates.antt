@@ -49,7 +49,7 @@ module _ (b : BoundValue) (o : Owners) where
     -- each owner has the first values of its pairs, and there are zeros elsewhere
     first_pair : (r : ℕ) (c : DatCell) → r < o.ranks → has_cell b (Data c) ≡ true
         → taken_by_owners b o (is_earlier (dat_count b.mesh)) (first_in_last b o.ranks) r (Data c) ≡ value_in
-            (cond (pair_owner (slicing_of b o) c.dat c.element == r) (Some (pair_values (first_values b) c.dat c.element)) None) c.component
+        (cond (pair_owner (slicing_of b o) c.dat c.element == r) (Some (pair_values (first_values b) c.dat c.element)) None) c.component
     first_pair r c lr h =
         let d = dat_there b c h in
         let w = owner_of o (dat_set b.mesh c.dat) c.element in

@@ -33,8 +33,8 @@ pub row_is : (b : BoundValue) (o : Owners) (memory : List ℤ) (s : Store) → O
     → (values : List ℤ) → length values ≡ dim → ((i : ℕ) → i < dim → get_or values i (pos 0) ≡ get_or memory (from + i) (pos 0)) → values ≡ map s (row_cells b d y)
 row_is b o memory s stand d y r from dim ld ly own at wide values count each =
     ext_get_or (pos 0) values (map s (row_cells b d y))
-        (count ∙ wide ∙ sym (length-map (row_cells b d y) s
-        ∙ length-map-range_with_len (λ i. Data (record { dat = d; element = y; component = i })) 0 (dat_dim b.mesh d)))
+    (count ∙ wide ∙ sym (length-map (row_cells b d y) s
+    ∙ length-map-range_with_len (λ i. Data (record { dat = d; element = y; component = i })) 0 (dat_dim b.mesh d)))
     (λ i li.
     let l : i < dat_dim b.mesh d = omega (arith, li, count, wide) in
     each i (omega (arith, li, count)) ∙ ap (λ k. get_or memory (k + i) (pos 0)) at ∙ ap (λ k. get_or memory k (pos 0)) (sym (block_follow b r (Element d y) i))

@@ -16,10 +16,10 @@ ghost use Rattle.deep_halo.specs.Hosts.{HostEnds};
 use crate::chain_memory::{owner_of, pair_at};
 use crate::programs::Program;
 use bound_program::{Act, ToldAct};
-use run_model::gather::host_acts::{Variables, run_act};
-use run_model::gather::print_dat;
 use kernel_model::types::KernelFault;
 use op_num::{OutOfMemory, Text};
+use run_model::gather::host_acts::{Variables, run_act};
+use run_model::gather::print_dat;
 use std::alloc::Global;
 
 // The values of a dat, from the owners of its elements.

@@ -7,7 +7,7 @@ use Rattle.std.proofs.lemmas.Bool.{cases_lt}
 use Rattle.std.proofs.lemmas.Bool.Decides.{nat_tests}
 use Rattle.mesh_decl.specs.declared.text.entry.TheConstants.{MESH_VALUES}
 use Rattle.gmsh_mesh.specs.declared.cell_sides.shape.Shape.{Shape}
-use Rattle.gmsh_mesh.specs.Sides.{nodes, sides, side_nodes, AreSides}
+use Rattle.gmsh_mesh.specs.Sides.{nodes, side_nodes, AreSides}
 use Rattle.gmsh_mesh.specs.Places.{ArePlaces}
 use Rattle.gmsh_text.specs.declared.nodes.Tag.{Tag}
 use Rattle.gmsh_text.specs.declared.read.GmshText.{GmshText}

@@ -26,7 +26,7 @@ module _ (classes : List ℕ) (count : ℕ) (marks : List Bool) (es : SideElemen
       each = λ class lc m. ⊎_elim
           (λ (is : get_or classes (count + e) 0 ≡ class).
           let here : get_or (set tags (get_or classes (count + e) 0) p) (get_or classes (count + e) 0) None ≡ p =
-              get_or-set_same tags (get_or classes (count + e) 0) p None (omega (arith, t.size, small)) in
+          get_or-set_same tags (get_or classes (count + e) 0) p None (omega (arith, t.size, small)) in
           let tag : IsClassTag classes count es.groups (e + 1) (get_or classes (count + e) 0) p =
           more classes count es.groups e (get_or classes (count + e) 0) (get_or tags (get_or classes (count + e) 0) None) p (get_or es.groups e Ungrouped) line refl refl
           (t.each (get_or classes (count + e) 0) small so) j in

@@ -8,8 +8,8 @@ use crate::choice::Dimension;
 use crate::refusal::GmshRefusal;
 use gmsh_text::Point;
 use gmsh_text::decimals::{largest_scale, read_scaled};
-use std::alloc::Global;
 use op_num::texts::Token;
+use std::alloc::Global;
 
 // The coordinates of all nodes, node for node, each the integer nearest to the decimal times the scale. In a plane mesh
 // the third is checked to be 0, and left out.

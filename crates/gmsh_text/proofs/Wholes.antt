@@ -94,32 +94,64 @@ module _ (line : ℕ) (g : Group) (t : Rows) where
 corner-over : (k : Kind) (m n : ℕ) (es : Elements) → AreOver k m es → AreOver k (m + 1) (corner_in k n es)
 corner-over Point m n es o = record { lines = o.lines; triangles = o.triangles; quadrangles = o.quadrangles; tetrahedra = o.tetrahedra; hexahedra = o.hexahedra }
 corner-over Line m n es o = record { lines = one-corner Line m n es.lines o.lines; triangles = o.triangles; quadrangles = o.quadrangles; tetrahedra = o.tetrahedra; hexahedra = o.hexahedra }
-corner-over Triangle m n es o = record
-    { lines = o.lines; triangles = one-corner Triangle m n es.triangles o.triangles; quadrangles = o.quadrangles; tetrahedra = o.tetrahedra;
-    hexahedra = o.hexahedra }
-corner-over Quadrangle m n es o = record
-    { lines = o.lines; triangles = o.triangles; quadrangles = one-corner Quadrangle m n es.quadrangles o.quadrangles; tetrahedra =
-    o.tetrahedra; hexahedra = o.hexahedra }
-corner-over Tetrahedron m n es o = record
-    { lines = o.lines; triangles = o.triangles; quadrangles = o.quadrangles; tetrahedra =
-    one-corner Tetrahedron m n es.tetrahedra o.tetrahedra; hexahedra = o.hexahedra }
-corner-over Hexahedron m n es o = record
-    { lines = o.lines; triangles = o.triangles; quadrangles = o.quadrangles; tetrahedra = o.tetrahedra; hexahedra =
-    one-corner Hexahedron m n es.hexahedra o.hexahedra }
+corner-over Triangle m n es o = record {
+  lines = o.lines;
+  triangles = one-corner Triangle m n es.triangles o.triangles;
+  quadrangles = o.quadrangles;
+  tetrahedra = o.tetrahedra;
+  hexahedra = o.hexahedra;
+}
+corner-over Quadrangle m n es o = record {
+  lines = o.lines;
+  triangles = o.triangles;
+  quadrangles = one-corner Quadrangle m n es.quadrangles o.quadrangles;
+  tetrahedra =
+      o.tetrahedra;
+  hexahedra = o.hexahedra;
+}
+corner-over Tetrahedron m n es o = record {
+  lines = o.lines;
+  triangles = o.triangles;
+  quadrangles = o.quadrangles;
+  tetrahedra =
+      one-corner Tetrahedron m n es.tetrahedra o.tetrahedra;
+  hexahedra = o.hexahedra;
+}
+corner-over Hexahedron m n es o = record {
+  lines = o.lines;
+  triangles = o.triangles;
+  quadrangles = o.quadrangles;
+  tetrahedra = o.tetrahedra;
+  hexahedra =
+      one-corner Hexahedron m n es.hexahedra o.hexahedra;
+}
 
 row-over : (k : Kind) (line : ℕ) (g : Group) (es : Elements) → AreOver k (node_count k) es → AreOver k 0 (row_in k line g es)
 row-over Point line g es o = record { lines = o.lines; triangles = o.triangles; quadrangles = o.quadrangles; tetrahedra = o.tetrahedra; hexahedra = o.hexahedra }
 row-over Line line g es o = record { lines = row-line line g es.lines o.lines; triangles = o.triangles; quadrangles = o.quadrangles; tetrahedra = o.tetrahedra; hexahedra = o.hexahedra }
 row-over Triangle line g es o = record { lines = o.lines; triangles = row-triangle line g es.triangles o.triangles; quadrangles = o.quadrangles; tetrahedra = o.tetrahedra; hexahedra = o.hexahedra }
-row-over Quadrangle line g es o = record
-    { lines = o.lines; triangles = o.triangles; quadrangles = row-quadrangle line g es.quadrangles o.quadrangles; tetrahedra = o.tetrahedra;
-    hexahedra = o.hexahedra }
-row-over Tetrahedron line g es o = record
-    { lines = o.lines; triangles = o.triangles; quadrangles = o.quadrangles; tetrahedra = row-tetrahedron line g es.tetrahedra o.tetrahedra;
-    hexahedra = o.hexahedra }
-row-over Hexahedron line g es o = record
-    { lines = o.lines; triangles = o.triangles; quadrangles = o.quadrangles; tetrahedra = o.tetrahedra; hexahedra =
-    row-hexahedron line g es.hexahedra o.hexahedra }
+row-over Quadrangle line g es o = record {
+  lines = o.lines;
+  triangles = o.triangles;
+  quadrangles = row-quadrangle line g es.quadrangles o.quadrangles;
+  tetrahedra = o.tetrahedra;
+  hexahedra = o.hexahedra;
+}
+row-over Tetrahedron line g es o = record {
+  lines = o.lines;
+  triangles = o.triangles;
+  quadrangles = o.quadrangles;
+  tetrahedra = row-tetrahedron line g es.tetrahedra o.tetrahedra;
+  hexahedra = o.hexahedra;
+}
+row-over Hexahedron line g es o = record {
+  lines = o.lines;
+  triangles = o.triangles;
+  quadrangles = o.quadrangles;
+  tetrahedra = o.tetrahedra;
+  hexahedra =
+      row-hexahedron line g es.hexahedra o.hexahedra;
+}
 
 whole : (k : Kind) (t : Rows) → IsOver k 0 t → IsWhole k t
 whole k t o = record { nodes = omega (arith, o.nodes); groups = o.groups }
@@ -193,8 +225,8 @@ element_block-keeps : (groups : EntityGroups) (es fs : Elements) (u v : Uncut) �
 unfolding element_block
 element_block-keeps groups es fs u v w h =
     let a = inverted (number 4 u) (λ dim p. and_then (integer p)
-        (λ e q. and_then (kind q) (λ k r. and_then (number (2 ^ 32) r) (λ n s. repeat (element_4 k (group_of groups dim e)) n es s))))
-        (fs, v) h in
+    (λ e q. and_then (kind q) (λ k r. and_then (number (2 ^ 32) r) (λ n s. repeat (element_4 k (group_of groups dim e)) n es s))))
+    (fs, v) h in
     let b = inverted (integer a.0.1) (λ e q. and_then (kind q) (λ k r. and_then (number (2 ^ 32) r) (λ n s. repeat (element_4 k (group_of groups a.0.0 e)) n es s))) (fs, v) a.2 in
     let c = inverted (kind b.0.1) (λ k r. and_then (number (2 ^ 32) r) (λ n s. repeat (element_4 k (group_of groups a.0.0 b.0.0)) n es s)) (fs, v) b.2 in
     let d = inverted (number (2 ^ 32) c.0.1) (λ n s. repeat (element_4 c.0.0 (group_of groups a.0.0 b.0.0)) n es s) (fs, v) c.2 in
@@ -230,15 +262,15 @@ body-whole : (version : Version) (groups : EntityGroups) (t : GmshText) (u v : U
 unfolding body
 body-whole version groups t u v h =
     let a = inverted (nodes version u)
-        (λ ns p. and_then (word (codes "$EndNodes") p)
-        (λ _ q. and_then (wanted q) (λ _ r. and_then (elements version groups r)
-        (λ es s. and_then (word (codes "$EndElements") s) (λ _ w. Ok (record { nodes = ns; elements = es }, w)))))) (t, v) h in
+    (λ ns p. and_then (word (codes "$EndNodes") p)
+    (λ _ q. and_then (wanted q) (λ _ r. and_then (elements version groups r)
+    (λ es s. and_then (word (codes "$EndElements") s) (λ _ w. Ok (record { nodes = ns; elements = es }, w)))))) (t, v) h in
     let b = inverted (word (codes "$EndNodes") a.0.1)
-        (λ _ q. and_then (wanted q) (λ _ r. and_then (elements version groups r)
-        (λ es s. and_then (word (codes "$EndElements") s) (λ _ w. Ok (record { nodes = a.0.0; elements = es }, w))))) (t, v) a.2 in
+    (λ _ q. and_then (wanted q) (λ _ r. and_then (elements version groups r)
+    (λ es s. and_then (word (codes "$EndElements") s) (λ _ w. Ok (record { nodes = a.0.0; elements = es }, w))))) (t, v) a.2 in
     let c = inverted (wanted b.0.1)
-        (λ _ r. and_then (elements version groups r)
-        (λ es s. and_then (word (codes "$EndElements") s) (λ _ w. Ok (record { nodes = a.0.0; elements = es }, w)))) (t, v) b.2 in
+    (λ _ r. and_then (elements version groups r)
+    (λ es s. and_then (word (codes "$EndElements") s) (λ _ w. Ok (record { nodes = a.0.0; elements = es }, w)))) (t, v) b.2 in
     let d = inverted (elements version groups c.0.1) (λ es s. and_then (word (codes "$EndElements") s) (λ _ w. Ok (record { nodes = a.0.0; elements = es }, w))) (t, v) c.2 in
     let e = inverted (word (codes "$EndElements") d.0.1) (λ _ w. Ok (record { nodes = a.0.0; elements = d.0.0 }, w)) (t, v) d.2 in
     subst (λ x. AreWhole x.elements) (same-value (record { nodes = a.0.0; elements = d.0.0 }) t e.0.1 v e.2) (elements-whole version groups d.0.0 c.0.1 d.0.1 d.1)

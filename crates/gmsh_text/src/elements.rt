@@ -12,9 +12,9 @@ use crate::kind::Kind;
 use crate::numbers::{next_token, pass_integers, read_integer, read_number, read_tag};
 use crate::refusal::TextRefusal;
 use crate::table::Elements;
+use op_num::texts::{Token, Tokens};
 use op_num::{NumRefusal, read_u64};
 use std::alloc::Global;
-use op_num::texts::{Token, Tokens};
 
 // The elements of a text of this version, whose entities have these groups.
 #[tactic(auto, unfolding(crate::specs::Reading::elements))]

@@ -9,9 +9,9 @@ use crate::format::{Section, next_section};
 use crate::numbers::{pass_decimals, pass_integers, read_integer, read_number, read_word};
 use crate::refusal::TextRefusal;
 use indexmap::IndexMap;
+use op_num::texts::Tokens;
 use std::alloc::Global;
 use std::marker::Model;
-use op_num::texts::Tokens;
 
 /// The physical group of an element.
 #[derive(Clone, Copy, Debug, PartialEq, Eq)]

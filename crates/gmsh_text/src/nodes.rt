@@ -7,9 +7,9 @@ ghost use Rattle.gmsh_text.specs.Reading.{point, node, tag_row, point_row, node_
 use crate::format::{Version, read_block_count};
 use crate::numbers::{pass_decimals, read_decimal, read_integer, read_number, read_tag};
 use crate::refusal::TextRefusal;
+use op_num::texts::{Token, Tokens};
 use std::alloc::Global;
 use std::marker::Model;
-use op_num::texts::{Token, Tokens};
 
 /// The tag of a node, and the line that it stands on.
 #[derive(Clone, Copy, Debug)]

@@ -11,8 +11,8 @@ ghost use Rattle.gmsh_text.specs.Numbers.{skip_decimals, skip_integers};
 use crate::decimals::{DecimalRefusal, read_scaled};
 use crate::nodes::Tag;
 use crate::refusal::TextRefusal;
-use op_num::{NumRefusal, read_i32, read_u64};
 use op_num::texts::{Token, Tokens};
+use op_num::{NumRefusal, read_i32, read_u64};
 
 // The next token.
 pub(crate) fn next_token<'a>(tokens: &mut Tokens<'a>) -> Result<Token<'a>, TextRefusal>

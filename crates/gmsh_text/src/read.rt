@@ -15,8 +15,8 @@ use crate::nodes::{Nodes, read_nodes};
 use crate::numbers::read_word;
 use crate::refusal::TextRefusal;
 use crate::table::Elements;
-use std::alloc::Global;
 use op_num::texts::Tokens;
+use std::alloc::Global;
 
 /// What a text of Gmsh has.
 #[derive(Debug, Drop)]

@@ -24,9 +24,11 @@ use crate::kept_files::Kept;
 use bound_program::Bound;
 use command_words::answer_lines::{Failure, Halt, Limit, Refusal};
 use command_words::{Options, Parting};
-use partition::distribute::{NumbersRefusal, OwnersRefusal, PartRefusal, Parts, numbers_by, owners_by};
 use mesh_decl::{Owners, Perms};
 use op_outside::Shelf;
+use partition::distribute::{
+    NumbersRefusal, OwnersRefusal, PartRefusal, Parts, numbers_by, owners_by,
+};
 use std::alloc::Global;
 
 /// New numbers of the elements of each set, as the options ask for them.

@@ -206,9 +206,12 @@ module _ (modes : List Mode) (ts us : List Target) (aliases : SameStoredAliases 
               let both : OpReduce r0 ≡ OpReduce r = sym inc ∙ alone a i lt e in
               let eq : r0 ≡ r = cc in
               let m0 = subst (λ k. Amount k s t b j) (sym eq) m in
-              let new : Amount r0 (store_arg ts s a i x) (store_arg us t a i y) b j =
-                  (g m0.0, st.here_s b j l e ∙ ap f (p ∙ m0.1) ∙ fg (read_arg ts s0 b j) m0.0, st.here_t b j l e ∙ ap f (q ∙ m0.2)
-                  ∙ fg (read_arg us t0 b j) m0.0) in
+              let new : Amount r0 (store_arg ts s a i x) (store_arg us t a i y) b j = (
+                g m0.0,
+                st.here_s b j l e ∙ ap f (p ∙ m0.1) ∙ fg (read_arg ts s0 b j) m0.0,
+                st.here_t b j l e ∙ ap f (q ∙ m0.2)
+                    ∙ fg (read_arg us t0 b j) m0.0,
+              ) in
               subst (λ k. Amount k (store_arg ts s a i x) (store_arg us t a i y) b j) eq new
           pick false e = (m.0, st.there_s b j l e ∙ m.1, st.there_t b j l e ∙ m.2)
 

@@ -128,14 +128,14 @@ module _ (consts : List ℤ) (ts us : List Target) (counts : (a : ℕ) → (targ
     stmt_copied (SetScalar k op opat e) s t ls h =
         twins_value s t ls (value_of ts consts e s ls) (value_of us consts e t ls) _ _ h (expr_copied e s t ls h)
         (λ v f. twins_value s t ls (stored op opat (slice_index_or ls k (pos 0)) v) (stored op opat (slice_index_or ls k (pos 0)) v)
-            (λ r. Done s (set ls k r)) (λ r. Done t (set ls k r)) h refl (λ r g. (refl, h)))
+        (λ r. Done s (set ls k r)) (λ r. Done t (set ls k r)) h refl (λ r g. (refl, h)))
     stmt_copied (SetLocal from count form ix at op opat e) s t ls h =
         twins_value s t ls (value_of ts consts ix s ls) (value_of us consts ix t ls) _ _ h (expr_copied ix s t ls h)
         (λ z f. twins_value s t ls (index_in count at z) (index_in count at z) _ _ h refl
         (λ i g. twins_value s t ls (value_of ts consts e s ls) (value_of us consts e t ls) _ _ h (expr_copied e s t ls h)
         (λ v l. twins_value s t ls (stored op opat (slice_index_or ls (from + i) (pos 0)) v)
-            (stored op opat (slice_index_or ls (from + i) (pos 0)) v) (λ r. Done s (set ls (from + i) r))
-            (λ r. Done t (set ls (from + i) r)) h refl (λ r o. (refl, h)))))
+        (stored op opat (slice_index_or ls (from + i) (pos 0)) v) (λ r. Done s (set ls (from + i) r))
+        (λ r. Done t (set ls (from + i) r)) h refl (λ r o. (refl, h)))))
     stmt_copied (SetArg a form ix at op opat e) s t ls h =
         twins_value s t ls (value_of ts consts ix s ls) (value_of us consts ix t ls) _ _ h (expr_copied ix s t ls h)
         (λ z f. twins_value s t ls (index_in (target_at ts a).count at z) (index_in (target_at us a).count at z) _ _ h (ap (λ c. index_in c at z) (counts a))
@@ -143,7 +143,7 @@ module _ (consts : List ℤ) (ts us : List Target) (counts : (a : ℕ) → (targ
         let lt = (index_ok (target_at ts a).count at z i g).0 in
         twins_value s t ls (value_of ts consts e s ls) (value_of us consts e t ls) _ _ h (expr_copied e s t ls h)
         (λ v l. twins_value s t ls (stored op opat (read_arg ts s a i) v) (stored op opat (read_arg us t a i) v)
-            (λ r. Done (store_arg ts s a i r) ls) (λ r. Done (store_arg us t a i r) ls) h (ap (λ o. stored op opat o v) (h.cells a i lt))
+        (λ r. Done (store_arg ts s a i r) ls) (λ r. Done (store_arg us t a i r) ls) h (ap (λ o. stored op opat o v) (h.cells a i lt))
         (λ r o. (refl, copied_kept s t a i r lt h)))))
     stmt_copied (If' e p a q b) s t ls h =
         twins_value s t ls (value_of ts consts e s ls) (value_of us consts e t ls) _ _ h (expr_copied e s t ls h)

@@ -32,8 +32,8 @@ all_or_along false H K back forth h = ((forth h.0).0, λ k. h.1 ((forth h.0).1 k
 pub covers_along : {I J : Type 0} → (c : Covered) (f : I → Assigned) (g : J → Assigned) → ((j : J) → (i : I) × (g j ≡ f i)) → ((i : I) → (j : J) × (g j ≡ f i)) → Covers c f → Covers c g
 covers_along c f g back forth cov a i =
     all_or_along (c a i) (λ p. HasAssigned (f p) a i) (λ p. HasAssigned (g p) a i)
-        (λ j. ((back j).0, λ h. subst (λ l. HasAssigned l a i) (sym (back j).1) h))
-        (λ k. ((forth k).0, λ h. subst (λ l. HasAssigned l a i) (forth k).1 h)) (cov a i)
+    (λ j. ((back j).0, λ h. subst (λ l. HasAssigned l a i) (sym (back j).1) h))
+    (λ k. ((forth k).0, λ h. subst (λ l. HasAssigned l a i) (forth k).1 h)) (cov a i)
 
 pub covers_none : Covers none_covered (λ (p : Unit {0}). [])
 covers_none a i = (tt, λ h. h)
@@ -184,5 +184,5 @@ module _ {I : Type 0} (p0 : I) (c : Covered) (f : I → Assigned) (cov : Covers 
   rules_first found P h =
       first_iff (with_rules c acc dim e found) (All_rules P) (λ rule at. P rule at ⊎ EventBreach rule at) (gather P) (scatter P)
       (one_rule MinMaxForm _ _ (one_rule LiteralIndexOut _ _
-          (one_rule WriteIndexNotStatic _ _
-          (one_rule ReadsUnwritten _ _ (one_rule IncNotSum _ _ (one_rule ReadsInc _ _ (one_rule WritesRead found P h)))))))
+      (one_rule WriteIndexNotStatic _ _
+      (one_rule ReadsUnwritten _ _ (one_rule IncNotSum _ _ (one_rule ReadsInc _ _ (one_rule WritesRead found P h)))))))

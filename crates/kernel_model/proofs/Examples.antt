@@ -103,9 +103,11 @@ lowers p q r w = ((omega arith, (omega arith, tt)), λ a i e lt. absurd (none_wr
 lowers_from_the_second_side : (p q r : _) → Obeys
     (SetArg 0 form.Index n0 here assign.Set here (Extremum' min_max.Min p (Arg' 1 form.Index q n0 here) r (Arg' 0 form.Index q n0 here)))
     (least_mode ∷ record { access = OpRead; dim = 1 } ∷ [])
-lowers_from_the_second_side p q r w =
-    ((omega arith, (omega arith, (omega arith, tt))), λ a i e lt. absurd
-    (none_written (least_mode ∷ record { access = OpRead; dim = 1 } ∷ []) ((λ f. cc), ((λ f. cc), tt)) a e))
+lowers_from_the_second_side p q r w = (
+  (omega arith, (omega arith, (omega arith, tt))),
+  λ a i e lt. absurd
+      (none_written (least_mode ∷ record { access = OpRead; dim = 1 } ∷ []) ((λ f. cc), ((λ f. cc), tt)) a e),
+)
 
 -- a[0] = MAX(a[0], 3); under OP_MIN
 raises : (p q r : _) → Obeys (SetArg 0 form.Index n0 here assign.Set here (Extremum' min_max.Max p (Arg' 0 form.Index q n0 here) r (Number (pos 3)))) (least_mode ∷ []) → ⊥

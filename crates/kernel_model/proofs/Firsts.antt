@@ -136,7 +136,7 @@ pub noted_if_first : (broken : Bool) (Q : Type 0) (rule : Rule) (at : Pos) (foun
     → Decides broken Q → IsFirst found P → IsFirst (noted_if broken rule at found) (OrIf P Q rule at)
 noted_if_first true Q rule at found P d h =
     first_iff (noted found rule at) (Or P rule at) (OrIf P Q rule at)
-        (λ other there q. ⊎_elim (λ p. inl p) (λ e. inr (e.0, (e.1, d.0 refl))) q)
-        (λ other there q. ⊎_elim (λ p. inl p) (λ e. inr (e.0, e.1.0)) q) (noted_first rule at found P h)
+    (λ other there q. ⊎_elim (λ p. inl p) (λ e. inr (e.0, (e.1, d.0 refl))) q)
+    (λ other there q. ⊎_elim (λ p. inl p) (λ e. inr (e.0, e.1.0)) q) (noted_first rule at found P h)
 noted_if_first false Q rule at found P d h =
     first_iff found P (OrIf P Q rule at) (λ other there p. inl p) (λ other there q. ⊎_elim (λ p. p) (λ e. absurd (let z = d.1 e.1.1 in let f : ⊥ = cc in f)) q) h

@@ -49,11 +49,11 @@ module _ (modes : List Mode) {J : Type 0} (c : Covered) (g : J → Assigned) (co
       first_iff found P (λ rule at. P rule at ⊎ LacksAt place a 0 rule at) (λ rule at p. inl p) (λ rule at q. ⊎_elim (λ p. p) (λ b. absurd (let l = b.1 in let m = b.2 in omega (arith, l, m))) q) h
   ends_first place a (suc n) found P h =
       first_iff (ends_found place modes c a (suc n) found)
-          (λ rule at. OrIf P (Lacks a) NotAllWritten (place a) rule at ⊎ LacksAt place (suc a) n rule at)
-          (λ rule at. P rule at ⊎ LacksAt place a (suc n) rule at) to back
+      (λ rule at. OrIf P (Lacks a) NotAllWritten (place a) rule at ⊎ LacksAt place (suc a) n rule at)
+      (λ rule at. P rule at ⊎ LacksAt place a (suc n) rule at) to back
       (ends_first place (suc a) n (noted_if (leaves_unwritten modes c a) NotAllWritten (place a) found)
-          (OrIf P (Lacks a) NotAllWritten (place a))
-          (noted_if_first (leaves_unwritten modes c a) (Lacks a) NotAllWritten (place a) found P (d_lacks a) h))
+      (OrIf P (Lacks a) NotAllWritten (place a))
+      (noted_if_first (leaves_unwritten modes c a) (Lacks a) NotAllWritten (place a) found P (d_lacks a) h))
     where
       to : (rule : Rule) (at : Pos) → OrIf P (Lacks a) NotAllWritten (place a) rule at ⊎ LacksAt place (suc a) n rule at → P rule at ⊎ LacksAt place a (suc n) rule at
       to rule at (inl (inl p)) = inl p
@@ -129,7 +129,7 @@ module _ (k : RKernel) (modes : List Mode) where
   walk_first =
       first_iff (walk k modes) All_breaks (KernelBreaks k modes) to back
       (ends_first modes (covered_after body no_counters none_covered) ends covers_end (parameter_place k) 0 (length modes)
-          (stmt_found modes body no_counters none_covered None) Event_breaks events_first)
+      (stmt_found modes body no_counters none_covered None) Event_breaks events_first)
 
 is_found : (found : Option Breach) (k : RKernel) (modes : List Mode) → IsFirst found (KernelBreaks k modes) → IsFound found k modes
 is_found None k modes h = (obeys_unless_broken k modes).1 h

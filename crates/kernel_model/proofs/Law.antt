@@ -54,18 +54,18 @@ module _ (modes : List Mode) (consts : List ℤ) (ts us : List Target) (aliases 
       turns_same i (suc m) before s t ls held ag h =
           let others = each_turn (some_path body) m in
           ends_then modes consts ts us aliases s0 t0 counts_s counts_t (Reach body (with_counter cs k (pos i)) before)
-              (TurnsReach i (suc m) before) (Held n cs) (meaning ts consts body s (set ls k (pos i)))
-              (meaning us consts body t (set ls k (pos i))) (turns (meaning ts consts body) k (suc i) m)
-              (turns (meaning us consts body) k (suc i) m)
+          (TurnsReach i (suc m) before) (Held n cs) (meaning ts consts body s (set ls k (pos i)))
+          (meaning us consts body t (set ls k (pos i))) (turns (meaning ts consts body) k (suc i) m)
+          (turns (meaning us consts body) k (suc i) m)
           (same i before s t (set ls k (pos i)) (held_counter n cs k (pos i) ls lt held) ag (λ w. allowed_front modes before (turn i w) (turn_events turn (suc i) m others) (h (w, others))))
           (kept ts consts (Held n cs) (Free cs) (λ j v l f p. held_set n cs j v l f p) body only s (set ls k (pos i)) (held_set n cs k (pos i) ls free held))
           (λ b s' t' ls' r held' ag'.
           ends_weaker modes consts ts us aliases s0 t0 counts_s counts_t (TurnsReach (suc i) m b) (TurnsReach i (suc m) before)
-              (λ after f. ((r.0, f.0), reach_two (turn i r.0) (turn_events turn (suc i) m f.0) before b after r.1 f.1))
-              (turns (meaning ts consts body) k (suc i) m s' ls') (turns (meaning us consts body) k (suc i) m t' ls')
+          (λ after f. ((r.0, f.0), reach_two (turn i r.0) (turn_events turn (suc i) m f.0) before b after r.1 f.1))
+          (turns (meaning ts consts body) k (suc i) m s' ls') (turns (meaning us consts body) k (suc i) m t' ls')
           (turns_same (suc i) m b s' t' ls' held' ag'
-              (λ w. subst (λ c. AllAllowed modes c (turn_events turn (suc i) m w)) r.1
-              (allowed_back modes before (turn i r.0) (turn_events turn (suc i) m w) (h (r.0, w))))))
+          (λ w. subst (λ c. AllAllowed modes c (turn_events turn (suc i) m w)) r.1
+          (allowed_back modes before (turn i r.0) (turn_events turn (suc i) m w) (h (r.0, w))))))
 
     mutual
       stmt_same : (st : RStmt) (cs : Counters) (before : Assigned) (s t : Store) (ls : List ℤ) → StmtWithin params n (length consts) st
@@ -77,27 +77,27 @@ module _ (modes : List Mode) (consts : List ℤ) (ts us : List Target) (aliases 
       stmt_same (Declare from count) cs before s t ls within kept' free held ag h = (before, (tt, refl), refl, ag)
       stmt_same (SetScalar k op opat e) cs before s t ls within kept' free held ag h =
           ends_value modes consts ts us aliases s0 t0 counts_s counts_t (Reach (SetScalar k op opat e) cs before) s t ls
-              (value_of ts consts e s ls) (value_of us consts e t ls) _ _
-              (expr_same modes consts ts us aliases s0 t0 counts_s counts_t e cs before s t ls held.1 ag h)
+          (value_of ts consts e s ls) (value_of us consts e t ls) _ _
+          (expr_same modes consts ts us aliases s0 t0 counts_s counts_t e cs before s t ls held.1 ag h)
           (λ v f. ends_value modes consts ts us aliases s0 t0 counts_s counts_t (Reach (SetScalar k op opat e) cs before) s t ls
-              (stored op opat (slice_index_or ls k (pos 0)) v) (stored op opat (slice_index_or ls k (pos 0)) v) (λ r. Done s (set ls k r))
-              (λ r. Done t (set ls k r)) refl
+          (stored op opat (slice_index_or ls k (pos 0)) v) (stored op opat (slice_index_or ls k (pos 0)) v) (λ r. Done s (set ls k r))
+          (λ r. Done t (set ls k r)) refl
           (λ r g. (before, (some_expr_path e, expr_keeps e (some_expr_path e) cs before), refl, ag)))
       stmt_same (SetLocal from count form ix at op opat e) cs before s t ls within kept' free held ag h =
           let Q = Reach (SetLocal from count form ix at op opat e) cs before in
           let wi = some_expr_path ix in
           let we = some_expr_path e in
           ends_value modes consts ts us aliases s0 t0 counts_s counts_t Q s t ls (value_of ts consts ix s ls) (value_of us consts ix t ls) _
-              _ (expr_same modes consts ts us aliases s0 t0 counts_s counts_t ix cs before s t ls held.1 ag
-              (λ w. allowed_front modes before (expr_events ix w cs) (expr_events e we cs) (h (w, we))))
+          _ (expr_same modes consts ts us aliases s0 t0 counts_s counts_t ix cs before s t ls held.1 ag
+          (λ w. allowed_front modes before (expr_events ix w cs) (expr_events e we cs) (h (w, we))))
           (λ z f. ends_value modes consts ts us aliases s0 t0 counts_s counts_t Q s t ls (index_in count at z) (index_in count at z) _ _ refl
           (λ i g. ends_value modes consts ts us aliases s0 t0 counts_s counts_t Q s t ls (value_of ts consts e s ls)
-              (value_of us consts e t ls) _ _
-              (expr_same modes consts ts us aliases s0 t0 counts_s counts_t e cs before s t ls held.1 ag
-              (λ w. after_expr modes ix wi cs before (expr_events e w cs) (h (wi, w))))
+          (value_of us consts e t ls) _ _
+          (expr_same modes consts ts us aliases s0 t0 counts_s counts_t e cs before s t ls held.1 ag
+          (λ w. after_expr modes ix wi cs before (expr_events e w cs) (h (wi, w))))
           (λ v l. ends_value modes consts ts us aliases s0 t0 counts_s counts_t Q s t ls
-              (stored op opat (slice_index_or ls (from + i) (pos 0)) v) (stored op opat (slice_index_or ls (from + i) (pos 0)) v)
-              (λ r. Done s (set ls (from + i) r)) (λ r. Done t (set ls (from + i) r)) refl
+          (stored op opat (slice_index_or ls (from + i) (pos 0)) v) (stored op opat (slice_index_or ls (from + i) (pos 0)) v)
+          (λ r. Done s (set ls (from + i) r)) (λ r. Done t (set ls (from + i) r)) refl
           (λ r o. (before, ((wi, we), reach_two (expr_events ix wi cs) (expr_events e we cs) before before before (expr_keeps ix wi cs before) (expr_keeps e we cs before)), refl, ag)))))
       stmt_same (SetArg a form ix at op opat e) cs before s t ls within kept' free held ag h =
           set_arg modes consts ts us aliases s0 t0 counts_s counts_t a form ix at opat cs before s t ls held.1 ag op e h
@@ -105,22 +105,28 @@ module _ (modes : List Mode) (consts : List ℤ) (ts us : List Target) (aliases 
           let Q = Reach (If' e p a q b) cs before in
           let we = some_expr_path e in
           ends_value modes consts ts us aliases s0 t0 counts_s counts_t Q s t ls (value_of ts consts e s ls) (value_of us consts e t ls) _ _
-              (expr_same modes consts ts us aliases s0 t0 counts_s counts_t e cs before s t ls held.1 ag
-              (λ w. allowed_front modes before (expr_events e w cs) (events a (some_path a) cs) (h (w, inl (some_path a)))))
+          (expr_same modes consts ts us aliases s0 t0 counts_s counts_t e cs before s t ls held.1 ag
+          (λ w. allowed_front modes before (expr_events e w cs) (events a (some_path a) cs) (h (w, inl (some_path a)))))
           (λ x f. ends_cond modes consts ts us aliases s0 t0 counts_s counts_t Q (is_zero x) (meaning ts consts b s ls) (meaning ts consts a s ls) (meaning us consts b t ls) (meaning us consts a t ls)
           (ends_weaker modes consts ts us aliases s0 t0 counts_s counts_t (Reach b cs before) Q
-              (λ after r. ((we, inr r.0), reach_two (expr_events e we cs) (events b r.0 cs) before before after (expr_keeps e we cs before)
-              r.1)) (meaning ts consts b s ls) (meaning us consts b t ls)
+          (λ after r. (
+            (we, inr r.0),
+            reach_two (expr_events e we cs) (events b r.0 cs) before before after (expr_keeps e we cs before)
+                r.1,
+          )) (meaning ts consts b s ls) (meaning us consts b t ls)
           (stmt_same b cs before s t ls within.2 kept'.1 free.1 held ag (λ w. after_expr modes e we cs before (events b w cs) (h (we, inr w)))))
           (ends_weaker modes consts ts us aliases s0 t0 counts_s counts_t (Reach a cs before) Q
-              (λ after r. ((we, inl r.0), reach_two (expr_events e we cs) (events a r.0 cs) before before after (expr_keeps e we cs before)
-              r.1)) (meaning ts consts a s ls) (meaning us consts a t ls)
+          (λ after r. (
+            (we, inl r.0),
+            reach_two (expr_events e we cs) (events a r.0 cs) before before after (expr_keeps e we cs before)
+                r.1,
+          )) (meaning ts consts a s ls) (meaning us consts a t ls)
           (stmt_same a cs before s t ls within.1 kept'.0 free.0 held ag (λ w. after_expr modes e we cs before (events a w cs) (h (we, inl w))))))
       stmt_same (For' k first past p body) cs before s t ls within kept' free held ag h =
           turns_same cs k body within.0 free.0 free.1
           (λ i b s' t' ls' held' ag' h'. stmt_same body (with_counter cs k (pos i)) b s' t' ls' within.2 kept'.1
-              (stores_both (Free cs) (λ j. j ≢ k) (Free (with_counter cs k (pos i))) (λ j f ne. free_counter cs k (pos i) j f ne) body
-              free.1 kept'.0) held' ag' h')
+          (stores_both (Free cs) (λ j. j ≢ k) (Free (with_counter cs k (pos i))) (λ j f ne. free_counter cs k (pos i) j f ne) body
+          free.1 kept'.0) held' ag' h')
           first (past - first) before s t ls held ag h
 
       row_same : {m : _} → (all : Row_of-RStmt m) → (cs : Counters) (before : Assigned) (s t : Store) (ls : List ℤ)
@@ -132,18 +138,18 @@ module _ (modes : List Mode) (consts : List ℤ) (ts us : List Target) (aliases 
       row_same (more_of-RStmt first rest) cs before s t ls within kept' free held ag h =
           let others = some_row_path rest in
           ends_then modes consts ts us aliases s0 t0 counts_s counts_t (Reach first cs before)
-              (RowReach (more_of-RStmt first rest) cs before) (Held n cs) (meaning ts consts first s ls) (meaning us consts first t ls)
-              (meaning_of_all ts consts rest) (meaning_of_all us consts rest)
+          (RowReach (more_of-RStmt first rest) cs before) (Held n cs) (meaning ts consts first s ls) (meaning us consts first t ls)
+          (meaning_of_all ts consts rest) (meaning_of_all us consts rest)
           (stmt_same first cs before s t ls within.0 kept'.0 free.0 held ag (λ w. allowed_front modes before (events first w cs) (row_events rest others cs) (h (w, others))))
           (kept ts consts (Held n cs) (Free cs) (λ j v l f p. held_set n cs j v l f p) first free.0 s ls held)
           (λ b s' t' ls' r held' ag'.
           ends_weaker modes consts ts us aliases s0 t0 counts_s counts_t (RowReach rest cs b)
-              (RowReach (more_of-RStmt first rest) cs before)
-              (λ after f. ((r.0, f.0), reach_two (events first r.0 cs) (row_events rest f.0 cs) before b after r.1 f.1))
-              (meaning_of_all ts consts rest s' ls') (meaning_of_all us consts rest t' ls')
+          (RowReach (more_of-RStmt first rest) cs before)
+          (λ after f. ((r.0, f.0), reach_two (events first r.0 cs) (row_events rest f.0 cs) before b after r.1 f.1))
+          (meaning_of_all ts consts rest s' ls') (meaning_of_all us consts rest t' ls')
           (row_same rest cs b s' t' ls' within.1 kept'.1 free.1 held' ag'
-              (λ w. subst (λ c. AllAllowed modes c (row_events rest w cs)) r.1
-              (allowed_back modes before (events first r.0 cs) (row_events rest w cs) (h (r.0, w))))))
+          (λ w. subst (λ c. AllAllowed modes c (row_events rest w cs)) r.1
+          (allowed_back modes before (events first r.0 cs) (row_events rest w cs) (h (r.0, w))))))
 
 -- ---- the law
 
@@ -151,8 +157,8 @@ pub stored_independence : StoredIndependence
 stored_independence k modes consts ts us s t resolved obeys su tu aliases inputs =
     finish (meaning ts consts k.body.statement s (replicate k.scratch (pos 0))) (meaning us consts k.body.statement t (replicate k.scratch (pos 0)))
     (stmt_same modes consts ts us aliases s t su.counts tu.counts k.params k.scratch k.body.statement no_counters [] s t
-        (replicate k.scratch (pos 0)) resolved.within resolved.counters (stores_free k.body.statement)
-        (length-replicate k.scratch (pos 0), λ j v e. absurd (let f : ⊥ = cc in f)) start (λ w. (obeys w).0))
+    (replicate k.scratch (pos 0)) resolved.within resolved.counters (stores_free k.body.statement)
+    (length-replicate k.scratch (pos 0), λ j v e. absurd (let f : ⊥ = cc in f)) start (λ w. (obeys w).0))
   where
     first_known : (a i : ℕ) → i < dim modes a → Known modes [] a i → read_arg ts s a i ≡ read_arg us t a i
     first_known a i lt (known_read e) = inputs a i lt (inl e)

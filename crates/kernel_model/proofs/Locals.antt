@@ -57,15 +57,15 @@ module _ (ts : List Target) (consts : List ℤ) where
           on_done_value P s ls (value_of ts consts e s ls) _ (λ v. on_done_value P s ls (stored op opat (slice_index_or ls k (pos 0)) v) _ (λ r. keep k r ls h p))
       kept (SetLocal from count form ix at op opat e) h s ls p =
           on_done_value P s ls (value_of ts consts ix s ls) _
-              (λ z. on_done_index P s ls count at z _
-              (λ i lt. on_done_value P s ls (value_of ts consts e s ls) _
-              (λ v. on_done_value P s ls (stored op opat (slice_index_or ls (from + i) (pos 0)) v) _
-              (λ r. keep (from + i) r ls (h (from + i) (omega arith) (omega arith)) p))))
+          (λ z. on_done_index P s ls count at z _
+          (λ i lt. on_done_value P s ls (value_of ts consts e s ls) _
+          (λ v. on_done_value P s ls (stored op opat (slice_index_or ls (from + i) (pos 0)) v) _
+          (λ r. keep (from + i) r ls (h (from + i) (omega arith) (omega arith)) p))))
       kept (SetArg a form ix at op opat e) h s ls p =
           on_done_value P s ls (value_of ts consts ix s ls) _
-              (λ z. on_done_index P s ls (target_at ts a).count at z _
-              (λ i lt. on_done_value P s ls (value_of ts consts e s ls) _
-              (λ v. on_done_value P s ls (stored op opat (read_arg ts s a i) v) _ (λ r. p))))
+          (λ z. on_done_index P s ls (target_at ts a).count at z _
+          (λ i lt. on_done_value P s ls (value_of ts consts e s ls) _
+          (λ v. on_done_value P s ls (stored op opat (read_arg ts s a i) v) _ (λ r. p))))
       kept (If' e q a r b) h s ls p =
           on_done_value P s ls (value_of ts consts e s ls) _ (λ x. on_done_cond P (is_zero x) _ _ (kept b h.1 s ls p) (kept a h.0 s ls p))
       kept (For' k first past q body) h s ls p =

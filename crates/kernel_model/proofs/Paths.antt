@@ -103,12 +103,12 @@ expr_keeps (Const' from count form p e at) w cs before = expr_keeps e w cs befor
 expr_keeps (Unary' op p a) w cs before = expr_keeps a w cs before
 expr_keeps (Binary' op p a q b at) w cs before =
     keeps_two (expr_events a w.0 cs) (taken_if (is_lazy op) (λ v. expr_events b v cs) w.1) before (expr_keeps a w.0 cs before)
-        (taken_if_keeps (is_lazy op) (λ v. expr_events b v cs) w.1 before (λ v. expr_keeps b v cs before))
+    (taken_if_keeps (is_lazy op) (λ v. expr_events b v cs) w.1 before (λ v. expr_keeps b v cs before))
 expr_keeps (Choice' p c q a r b) w cs before =
     keeps_two (expr_events c w.0 cs) (if_taken (λ v. expr_events a v cs) w.1 ++ if_taken (λ v. expr_events b v cs) w.2) before (expr_keeps c w.0 cs before)
     (keeps_two (if_taken (λ v. expr_events a v cs) w.1) (if_taken (λ v. expr_events b v cs) w.2) before
-        (if_taken_keeps (λ v. expr_events a v cs) w.1 before (λ v. expr_keeps a v cs before))
-        (if_taken_keeps (λ v. expr_events b v cs) w.2 before (λ v. expr_keeps b v cs before)))
+    (if_taken_keeps (λ v. expr_events a v cs) w.1 before (λ v. expr_keeps a v cs before))
+    (if_taken_keeps (λ v. expr_events b v cs) w.2 before (λ v. expr_keeps b v cs before)))
 expr_keeps (Paren' p a) w cs before = expr_keeps a w cs before
 expr_keeps (Extremum' which p a q b) w cs before =
     keeps_two (expr_events a w.0 cs) (expr_events b w.1 cs) before (expr_keeps a w.0 cs before) (expr_keeps b w.1 cs before)

@@ -308,8 +308,8 @@ module _ (ts : List Target) (consts : List ℤ) (s0 : Store) (fits : Fits ts s0)
         (λ z d. index_ends s ls (target_at ts a).count at z _ g
         (λ i lt. num_ends s ls (value_of ts consts e s ls) _ g (expr_num e s ls w.3 g h)
         (λ v f. num_ends s ls (stored op opat (read_arg ts s a i) v) _ g
-            (stored_num op opat _ v (g.range (target_at ts a).array ((target_at ts a).from + i)) f)
-            (λ r m. (good_stored s a i r lt m g, h)))))
+        (stored_num op opat _ v (g.range (target_at ts a).array ((target_at ts a).from + i)) f)
+        (λ r m. (good_stored s a i r lt m g, h)))))
     stmt_ends (If' e p a q b) s ls w g h =
         num_ends s ls (value_of ts consts e s ls) _ g (expr_num e s ls w.0 g h)
         (λ x f. cond_ends (is_zero x) _ _ (stmt_ends b s ls w.2 g h) (stmt_ends a s ls w.1 g h))
@@ -325,7 +325,7 @@ pub range_stays : RangeStays
 range_stays k ts consts s resolved nums fits range =
     done (meaning ts consts k.body.statement s (replicate k.scratch (pos 0)))
     (stmt_ends ts consts s fits nums k.params k.scratch k.body.statement s (replicate k.scratch (pos 0)) resolved.within
-        (record { shape = record { long = refl; wide = λ y. refl }; range = range }) (no_locals k.scratch))
+    (record { shape = record { long = refl; wide = λ y. refl }; range = range }) (no_locals k.scratch))
   where
     done : (o : Outcome) → Ends ts consts s fits nums k.params k.scratch o → InRange (store_after (without_locals o))
     done (Done t ls) h = h.0.range

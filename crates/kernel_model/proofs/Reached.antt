@@ -50,14 +50,14 @@ module _ (ts : List Target) (consts : List ℤ) (P : Store → Type 0) (keep : (
         on_end_value P s ls (value_of ts consts e s ls) _ p (λ v. on_end_value P s ls (stored op opat (slice_index_or ls k (pos 0)) v) _ p (λ r. p))
     kept_store (SetLocal from count form ix at op opat e) s ls p =
         on_end_value P s ls (value_of ts consts ix s ls) _ p
-            (λ z. on_end_index P s ls count at z _ p
-            (λ i lt. on_end_value P s ls (value_of ts consts e s ls) _ p
-            (λ v. on_end_value P s ls (stored op opat (slice_index_or ls (from + i) (pos 0)) v) _ p (λ r. p))))
+        (λ z. on_end_index P s ls count at z _ p
+        (λ i lt. on_end_value P s ls (value_of ts consts e s ls) _ p
+        (λ v. on_end_value P s ls (stored op opat (slice_index_or ls (from + i) (pos 0)) v) _ p (λ r. p))))
     kept_store (SetArg a form ix at op opat e) s ls p =
         on_end_value P s ls (value_of ts consts ix s ls) _ p
-            (λ z. on_end_index P s ls (target_at ts a).count at z _ p
-            (λ i lt. on_end_value P s ls (value_of ts consts e s ls) _ p
-            (λ v. on_end_value P s ls (stored op opat (read_arg ts s a i) v) _ p (λ r. keep a i r s lt p))))
+        (λ z. on_end_index P s ls (target_at ts a).count at z _ p
+        (λ i lt. on_end_value P s ls (value_of ts consts e s ls) _ p
+        (λ v. on_end_value P s ls (stored op opat (read_arg ts s a i) v) _ p (λ r. keep a i r s lt p))))
     kept_store (If' e q a r b) s ls p =
         on_end_value P s ls (value_of ts consts e s ls) _ p (λ x. on_end_cond P (is_zero x) _ _ (kept_store b s ls p) (kept_store a s ls p))
     kept_store (For' k first past q body) s ls p =
@@ -127,4 +127,4 @@ pub others_stay : OthersStay
 others_stay k ts consts s x j fits reached =
     cell_after s x j (meaning ts consts k.body.statement s (replicate k.scratch (pos 0)))
     (kept_store ts consts (SameCell s x j) (λ a i v t lt h. cell_kept ts s t x j a i v fits lt (λ e f. reached (a, i, lt, e, f)) h)
-        k.body.statement s (replicate k.scratch (pos 0)) (same_at_first s x j))
+    k.body.statement s (replicate k.scratch (pos 0)) (same_at_first s x j))

@@ -58,8 +58,8 @@ module _ (modes : List Mode) (ts : List Target) (consts : List ℤ) (P : Store �
         on_end_value P s ls (value_of ts consts e s ls) _ p (λ v. on_end_value P s ls (stored op opat _ v) _ p (λ r. p))
     stmt_keeps (SetLocal from count form ix at op opat e) cs before s ls h p =
         on_end_value P s ls (value_of ts consts ix s ls) _ p
-            (λ z. on_end_index P s ls count at z _ p
-            (λ i lt. on_end_value P s ls (value_of ts consts e s ls) _ p (λ v. on_end_value P s ls (stored op opat _ v) _ p (λ r. p))))
+        (λ z. on_end_index P s ls count at z _ p
+        (λ i lt. on_end_value P s ls (value_of ts consts e s ls) _ p (λ v. on_end_value P s ls (stored op opat _ v) _ p (λ r. p))))
     stmt_keeps (SetArg a form ix at op opat e) cs before s ls h p =
         let own = own_side a form ix op e in
         let wi = some_expr_path ix in
@@ -68,9 +68,9 @@ module _ (modes : List Mode) (ts : List Target) (consts : List ℤ) (P : Store �
         let m = after_keeping modes (right_events own e we cs) end before (right_keeps own e we cs before) (after_expr modes ix wi cs before (right_events own e we cs ++ end) (h (wi, we))) in
         let no_read = λ (f : (mode_at modes a).access ≡ OpRead). target_not_read modes own op a (static ix cs) at before f m.0 in
         on_end_value P s ls (value_of ts consts ix s ls) _ p
-            (λ z. on_end_index P s ls (target_at ts a).count at z _ p
-            (λ i lt. on_end_value P s ls (value_of ts consts e s ls) _ p
-            (λ v. on_end_value P s ls (stored op opat (read_arg ts s a i) v) _ p (λ r. keep a i r s no_read lt p))))
+        (λ z. on_end_index P s ls (target_at ts a).count at z _ p
+        (λ i lt. on_end_value P s ls (value_of ts consts e s ls) _ p
+        (λ v. on_end_value P s ls (stored op opat (read_arg ts s a i) v) _ p (λ r. keep a i r s no_read lt p))))
     stmt_keeps (If' e q a r b) cs before s ls h p =
         let we = some_expr_path e in
         on_end_value P s ls (value_of ts consts e s ls) _ p
@@ -93,5 +93,5 @@ pub reads_stay : ReadsStay
 reads_stay k modes ts consts s x j obeys fits only =
     cell_after s x j (meaning ts consts k.body.statement s (replicate k.scratch (pos 0)))
     (stmt_keeps modes ts consts (SameCell s x j)
-        (λ a i v t no_read lt h. cell_kept ts s t x j a i v fits lt (λ e f. no_read (only a i lt e f)) h) k.body.statement no_counters [] s
-        (replicate k.scratch (pos 0)) (λ w. (obeys w).0) (same_at_first s x j))
+    (λ a i v t no_read lt h. cell_kept ts s t x j a i v fits lt (λ e f. no_read (only a i lt e f)) h) k.body.statement no_counters [] s
+    (replicate k.scratch (pos 0)) (λ w. (obeys w).0) (same_at_first s x j))

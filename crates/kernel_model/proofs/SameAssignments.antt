@@ -36,7 +36,7 @@ module _ (modes : List Mode) (consts : List ℤ) (ts us : List Target) (aliases 
   abbrev pub Run : Store → List ℤ → List Target → ℕ → Pos → Value → AssignOp → Pos → Value → Outcome
   Run s ls rs a at z op opat e =
       with_value s ls z (λ z. with_value s ls (index_in (target_at rs a).count at z)
-          (λ i. with_value s ls e (λ v. with_value s ls (stored op opat (read_arg rs s a i) v) (λ r. Done (store_arg rs s a i r) ls))))
+      (λ i. with_value s ls e (λ v. with_value s ls (stored op opat (read_arg rs s a i) v) (λ r. Done (store_arg rs s a i r) ls))))
 
   module _ (a : ℕ) (form : ElementForm) (ix : RExpr) (at : Pos) (opat : Pos) (cs : Counters) (before : Assigned) (s t : Store) (ls : List ℤ) (st : Static cs ls) (ag : Agree before s t) where
     abbrev pub ArgEnds : (Assigned → Type 0) → AssignOp → RExpr → Type 0
@@ -57,7 +57,7 @@ module _ (modes : List Mode) (consts : List ℤ) (ts us : List Target) (aliases 
         let same = expr_same modes consts ts us aliases s0 t0 counts_s counts_t ix cs before s t ls st ag fine in
         ends_value modes consts ts us aliases s0 t0 counts_s counts_t Q s t ls (value_of ts consts ix s ls) (value_of us consts ix t ls) _ _ same
         (λ z f. ends_value modes consts ts us aliases s0 t0 counts_s counts_t Q s t ls (index_in (target_at ts a).count at z)
-            (index_in (target_at us a).count at z) _ _ (ap (λ c. index_in c at z) (counts_s a ∙ sym (counts_t a)))
+        (index_in (target_at us a).count at z) _ _ (ap (λ c. index_in c at z) (counts_s a ∙ sym (counts_t a)))
         (λ i g.
         let ok = index_ok (target_at us a).count at z i g in
         let lt = subst (λ c. i < c) (counts_t a) ok.0 in
@@ -76,9 +76,9 @@ module _ (modes : List Mode) (consts : List ℤ) (ts us : List Target) (aliases 
         at_index Q op e (λ w. allowed_front modes before (expr_events ix w cs) (expr_events e we cs ++ end) (h (w, we)))
         (λ z i fs f g lt hz.
         ends_value modes consts ts us aliases s0 t0 counts_s counts_t Q s t ls (value_of ts consts e s ls) (value_of us consts e t ls) _ _
-            (expr_same modes consts ts us aliases s0 t0 counts_s counts_t e cs before s t ls st ag
-            (λ w. allowed_front modes before (expr_events e w cs) end
-            (after_expr modes ix wi cs before (expr_events e w cs ++ end) (h (wi, w)))))
+        (expr_same modes consts ts us aliases s0 t0 counts_s counts_t e cs before s t ls st ag
+        (λ w. allowed_front modes before (expr_events e w cs) end
+        (after_expr modes ix wi cs before (expr_events e w cs ++ end) (h (wi, w)))))
         (λ v l. store_same modes consts ts us aliases s0 t0 counts_s counts_t Q before s t ls a i (static ix cs) lt hz ag q op opat at v last.0))
 
     -- the target itself on the right
@@ -107,15 +107,15 @@ module _ (modes : List Mode) (consts : List ℤ) (ts us : List Target) (aliases 
         let es = ap (λ o. and_then o (λ u. and_then (value_of ts consts y s ls) (λ v. Ok (extremum which u v)))) (place_value ts s x z i place fs gs) in
         let et = ap (λ o. and_then o (λ u. and_then (value_of us consts y t ls) (λ v. Ok (extremum which u v)))) (place_value us t x z i place f g) in
         let each = λ (v : ℤ). sum_stored modes ts us aliases s0 t0 (reduction_of which) before a i (static ix cs) s t
-            (λ o. extremum which o v) (λ d. extremum which d v) (λ x d. more_merged (reduction_of which) x d v) lt acc ag in
+        (λ o. extremum which o v) (λ d. extremum which d v) (λ x d. more_merged (reduction_of which) x d v) lt acc ag in
         subst (λ o. Ends modes consts ts us aliases s0 t0 counts_s counts_t Q (Stores s ts i o) (Stores t us i (value_of us consts (Extremum' which p x q y) t ls))) (sym es)
         (subst (λ o. Ends modes consts ts us aliases s0 t0 counts_s counts_t Q
-            (Stores s ts i (and_then (value_of ts consts y s ls) (λ v. Ok (extremum which (read_arg ts s a i) v)))) (Stores t us i o))
-            (sym et)
+        (Stores s ts i (and_then (value_of ts consts y s ls) (λ v. Ok (extremum which (read_arg ts s a i) v)))) (Stores t us i o))
+        (sym et)
         (subst (λ o. Ends modes consts ts us aliases s0 t0 counts_s counts_t Q
-            (Stores s ts i (and_then o (λ v. Ok (extremum which (read_arg ts s a i) v))))
-            (Stores t us i (and_then (value_of us consts y t ls) (λ v. Ok (extremum which (read_arg us t a i) v)))))
-            (sym (expr_same modes consts ts us aliases s0 t0 counts_s counts_t y cs before s t ls st ag fine_y))
+        (Stores s ts i (and_then o (λ v. Ok (extremum which (read_arg ts s a i) v))))
+        (Stores t us i (and_then (value_of us consts y t ls) (λ v. Ok (extremum which (read_arg us t a i) v)))))
+        (sym (expr_same modes consts ts us aliases s0 t0 counts_s counts_t y cs before s t ls st ag fine_y))
         (both (value_of us consts y t ls) i each))))
       where
         both : (o : Value) (i : ℕ) → ((v : ℤ) → Agree (with_assigned a (static ix cs) before)
@@ -137,15 +137,15 @@ module _ (modes : List Mode) (consts : List ℤ) (ts us : List Target) (aliases 
         let es = ap (λ o. and_then (value_of ts consts x s ls) (λ u. and_then o (λ v. Ok (extremum which u v)))) (place_value ts s y z i place fs gs) in
         let et = ap (λ o. and_then (value_of us consts x t ls) (λ u. and_then o (λ v. Ok (extremum which u v)))) (place_value us t y z i place f g) in
         let each = λ (v : ℤ). sum_stored modes ts us aliases s0 t0 (reduction_of which) before a i (static ix cs) s t
-            (λ o. extremum which v o) (λ d. extremum which v d) (λ x d. merged_before (reduction_of which) x d v) lt acc ag in
+        (λ o. extremum which v o) (λ d. extremum which v d) (λ x d. merged_before (reduction_of which) x d v) lt acc ag in
         subst (λ o. Ends modes consts ts us aliases s0 t0 counts_s counts_t Q (Stores s ts i o) (Stores t us i (value_of us consts (Extremum' which p x q y) t ls))) (sym es)
         (subst (λ o. Ends modes consts ts us aliases s0 t0 counts_s counts_t Q
-            (Stores s ts i (and_then (value_of ts consts x s ls) (λ u. Ok (extremum which u (read_arg ts s a i))))) (Stores t us i o))
-            (sym et)
+        (Stores s ts i (and_then (value_of ts consts x s ls) (λ u. Ok (extremum which u (read_arg ts s a i))))) (Stores t us i o))
+        (sym et)
         (subst (λ o. Ends modes consts ts us aliases s0 t0 counts_s counts_t Q
-            (Stores s ts i (and_then o (λ u. Ok (extremum which u (read_arg ts s a i)))))
-            (Stores t us i (and_then (value_of us consts x t ls) (λ u. Ok (extremum which u (read_arg us t a i))))))
-            (sym (expr_same modes consts ts us aliases s0 t0 counts_s counts_t x cs before s t ls st ag fine_x))
+        (Stores s ts i (and_then o (λ u. Ok (extremum which u (read_arg ts s a i)))))
+        (Stores t us i (and_then (value_of us consts x t ls) (λ u. Ok (extremum which u (read_arg us t a i))))))
+        (sym (expr_same modes consts ts us aliases s0 t0 counts_s counts_t x cs before s t ls st ag fine_x))
         (both (value_of us consts x t ls) i each))))
       where
         both : (o : Value) (i : ℕ) → ((v : ℤ) → Agree (with_assigned a (static ix cs) before)
@@ -191,7 +191,7 @@ module _ (modes : List Mode) (consts : List ℤ) (ts us : List Target) (aliases 
         let same : a ≡ b = eqb-true a b (and_first _ _ e) in
         let own = after_expr modes jx w cs before (Owns which b (static jx cs) bt ∷ []) h in
         keeping_both modes (expr_events jx w cs) (Reads b (static jx cs) bt ∷ []) before (expr_keeps jx w cs before)
-            (allowed_front modes before (expr_events jx w cs) (Owns which b (static jx cs) bt ∷ []) h)
+        (allowed_front modes before (expr_events jx w cs) (Owns which b (static jx cs) bt ∷ []) h)
         (own_read which (access modes b) (dim modes b) b (static jx cs) (λ g. n (ap (access modes) same ∙ g)) own.0, tt)
     own_relaxed which x w e n h = h
 
@@ -248,16 +248,16 @@ module _ (modes : List Mode) (consts : List ℤ) (ts us : List Target) (aliases 
           let r = first_parts h w.1 in
           keeping_both modes (expr_events ix w.0 cs) _ before (expr_keeps ix w.0 cs before) (fine_index (First which) h w.0)
           (together (expr_events x w.1.0 cs) (expr_events y w.1.1 cs) (Assigns a (static ix cs) at) (expr_keeps x w.1.0 cs before)
-              (expr_keeps y w.1.1 cs before) (own_relaxed which x w.1.0 e n r.0) r.1
-              (merge_assign which (access modes a) (dim modes a) a (static ix cs) n r.2))
+          (expr_keeps y w.1.1 cs before) (own_relaxed which x w.1.0 e n r.0) r.1
+          (merge_assign which (access modes a) (dim modes a) a (static ix cs) n r.2))
 
       plain_second : is_place a form ix y ≡ true → (access modes a ≡ OpReduce (reduction_of which) → ⊥) → OwnFine (Second which) → OwnFine Neither
       plain_second e n h w =
           let r = second_parts h w.1 in
           keeping_both modes (expr_events ix w.0 cs) _ before (expr_keeps ix w.0 cs before) (fine_index (Second which) h w.0)
           (together (expr_events x w.1.0 cs) (expr_events y w.1.1 cs) (Assigns a (static ix cs) at) (expr_keeps x w.1.0 cs before)
-              (expr_keeps y w.1.1 cs before) r.0 (own_relaxed which y w.1.1 e n r.1)
-              (merge_assign which (access modes a) (dim modes a) a (static ix cs) n r.2))
+          (expr_keeps y w.1.1 cs before) r.0 (own_relaxed which y w.1.1 e n r.1)
+          (merge_assign which (access modes a) (dim modes a) a (static ix cs) n r.2))
 
       own_form : (p q : _) (bx by : Bool) → is_place a form ix x ≡ bx → is_place a form ix y ≡ by
           → ((w : ExprPath ix × (ExprPath x × ExprPath y)) → AllAllowed modes before

@@ -47,8 +47,8 @@ module _ (modes : List Mode) (consts : List ℤ) (ts us : List Target) (aliases 
           and_then (cond b (Ok n) (Err (fault Index at))) (λ i. Ok (read_arg us t a i))
       pick true e =
           ap Ok (ag.known a n (ltb-true n (dim modes a) e)
-              (known_if_read (access modes a) a n ix before refl m
-              (λ z f. let g : ◌≡◌ {A = Value} (Ok (pos n)) (Ok z) = hz z f in let k : z ≡ pos n = cc in k)))
+          (known_if_read (access modes a) a n ix before refl m
+          (λ z f. let g : ◌≡◌ {A = Value} (Ok (pos n)) (Ok z) = hz z f in let k : z ≡ pos n = cc in k)))
       pick false e = refl
 
   abbrev pub Fine : (e : RExpr) → Counters → Assigned → Type 0
@@ -76,8 +76,8 @@ module _ (modes : List Mode) (consts : List ℤ) (ts us : List Target) (aliases 
       let vb = some_if (is_lazy op) (some_expr_path b) in
       let x = expr_same a cs before s t ls st ag (λ w. allowed_front modes before (expr_events a w cs) (taken_if (is_lazy op) right vb) (h (w, vb))) in
       let y = expr_same b cs before s t ls st ag
-          (λ w. subst (λ l. AllAllowed modes before l) (taken_if-taken (is_lazy op) right w)
-          (after_expr modes a wa cs before (taken_if (is_lazy op) right (taken (is_lazy op) w)) (h (wa, taken (is_lazy op) w)))) in
+      (λ w. subst (λ l. AllAllowed modes before l) (taken_if-taken (is_lazy op) right w)
+      (after_expr modes a wa cs before (taken_if (is_lazy op) right (taken (is_lazy op) w)) (h (wa, taken (is_lazy op) w)))) in
       ap (λ r. and_then r (λ u. cond (is_settled op u) (Ok (truth (not (is_zero u)))) (and_then (value_of ts consts b s ls) (λ v. apply op at u v)))) x
       ∙ ap (λ r. and_then (value_of us consts a t ls) (λ u. cond (is_settled op u) (Ok (truth (not (is_zero u)))) (and_then r (λ v. apply op at u v)))) y
   expr_same (Choice' p c q a r b) cs before s t ls st ag h =

@@ -114,7 +114,7 @@ static_value ts consts (Unary' op p a) cs s ls h z e =
     static_of_unary op (static a cs) (value_of ts consts a s ls) z (λ w f. static_value ts consts a cs s ls h w f) e
 static_value ts consts (Binary' op p a q b at) cs s ls h z e =
     static_of_op op at (static a cs) (static b cs) (value_of ts consts a s ls) (value_of ts consts b s ls) z
-        (λ w f. static_value ts consts a cs s ls h w f) (λ w f. static_value ts consts b cs s ls h w f) e
+    (λ w f. static_value ts consts a cs s ls h w f) (λ w f. static_value ts consts b cs s ls h w f) e
 static_value ts consts (Paren' p a) cs s ls h z e = static_value ts consts a cs s ls h z e
 static_value ts consts e cs s ls h z f = absurd (let k : ⊥ = cc in k)
 

@@ -44,8 +44,8 @@ module _ (modes : List Mode) where
       → ((rule : Rule) (at : Pos) → SomeBreaks g y rule at → SomeBreaks f x rule at) → Step f x go → Step g y go
   s_along f x g y go to back s found P h =
       first_iff (go found) (λ rule at. P rule at ⊎ SomeBreaks f x rule at) (λ rule at. P rule at ⊎ SomeBreaks g y rule at)
-          (λ rule at. ⊎_elim (λ p. inl p) (λ q. inr (to rule at q))) (λ rule at. ⊎_elim (λ p. inl p) (λ q. inr (back rule at q)))
-          (s found P h)
+      (λ rule at. ⊎_elim (λ p. inl p) (λ q. inr (to rule at q))) (λ rule at. ⊎_elim (λ p. inl p) (λ q. inr (back rule at q)))
+      (s found P h)
 
   -- no event
   pub s_none : {I : Type 0} → (W : Type 0) (f : I → Assigned) → Step f (λ (w : W). []) (λ found. found)
@@ -57,8 +57,8 @@ module _ (modes : List Mode) where
       → Step f (λ (w : V × W). x w.0 ++ y w.1) (λ found. then_go (go found))
   s_then {I} {V} {W} w0 f x y go then_go s t found P h =
       first_iff (then_go (go found)) (λ rule at. (P rule at ⊎ SomeBreaks f x rule at)
-          ⊎ SomeBreaks (λ (k : I × V). assigned_after (f k.0) (x k.1)) y rule at)
-          (λ rule at. P rule at ⊎ SomeBreaks f (λ (w : V × W). x w.0 ++ y w.1) rule at) to back
+      ⊎ SomeBreaks (λ (k : I × V). assigned_after (f k.0) (x k.1)) y rule at)
+      (λ rule at. P rule at ⊎ SomeBreaks f (λ (w : V × W). x w.0 ++ y w.1) rule at) to back
       (t (go found) (λ rule at. P rule at ⊎ SomeBreaks f x rule at) (s found P h))
     where
       to : (rule : Rule) (at : Pos) → (P rule at ⊎ SomeBreaks f x rule at)

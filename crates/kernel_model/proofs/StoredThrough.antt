@@ -1,5 +1,5 @@
 -- Cells that are reached only by arguments through which a kernel's text stores nothing stay.
-use Rattle.std.proofs.Common.{◌≡◌, ℕ, zero, suc, ℤ, pos, ◌+◌, ◌-◌, ◌<◌, List, Bool, true, false, ◌||◌, set, refl, sym, ◌∙◌, replicate}
+use Rattle.std.proofs.Common.{◌≡◌, ℕ, zero, suc, ℤ, pos, ◌+◌, ◌-◌, ◌<◌, List, true, false, set, refl, replicate}
 use Rattle.std.specs.Prelude.{slice_index_or}
 use Rattle.std.proofs.lemmas.Bool.{eq-eqb, or_left, or_right}
 use Rattle.c_tree.specs.declared.lexer.tokens.Pos.{Pos}
@@ -27,14 +27,14 @@ module _ (ts : List Target) (consts : List ℤ) (P : Store → Type 0) (may : �
         on_end_value P s ls (value_of ts consts e s ls) _ p (λ v. on_end_value P s ls (stored op opat (slice_index_or ls k (pos 0)) v) _ p (λ r. p))
     stmt_keeps (SetLocal from count form ix at op opat e) h s ls p =
         on_end_value P s ls (value_of ts consts ix s ls) _ p
-            (λ z. on_end_index P s ls count at z _ p
-            (λ i lt. on_end_value P s ls (value_of ts consts e s ls) _ p
-            (λ v. on_end_value P s ls (stored op opat (slice_index_or ls (from + i) (pos 0)) v) _ p (λ r. p))))
+        (λ z. on_end_index P s ls count at z _ p
+        (λ i lt. on_end_value P s ls (value_of ts consts e s ls) _ p
+        (λ v. on_end_value P s ls (stored op opat (slice_index_or ls (from + i) (pos 0)) v) _ p (λ r. p))))
     stmt_keeps (SetArg a form ix at op opat e) h s ls p =
         on_end_value P s ls (value_of ts consts ix s ls) _ p
-            (λ z. on_end_index P s ls (target_at ts a).count at z _ p
-            (λ i lt. on_end_value P s ls (value_of ts consts e s ls) _ p
-            (λ v. on_end_value P s ls (stored op opat (read_arg ts s a i) v) _ p (λ r. keep a i r s (h a (eq-eqb a a refl)) lt p))))
+        (λ z. on_end_index P s ls (target_at ts a).count at z _ p
+        (λ i lt. on_end_value P s ls (value_of ts consts e s ls) _ p
+        (λ v. on_end_value P s ls (stored op opat (read_arg ts s a i) v) _ p (λ r. keep a i r s (h a (eq-eqb a a refl)) lt p))))
     stmt_keeps (If' e q a r b) h s ls p =
         on_end_value P s ls (value_of ts consts e s ls) _ p
         (λ x. on_end_cond P (is_zero x) _ _ (stmt_keeps b (λ c g. h c (or_right (stores_through c a) (stores_through c b) g)) s ls p)
@@ -53,9 +53,9 @@ pub unstored_stay : UnstoredStay
 unstored_stay k ts consts s x j fits unstored =
     cell_after s x j (meaning ts consts k.body.statement s (replicate k.scratch (pos 0)))
     (stmt_keeps ts consts (SameCell s x j) (λ a. stores_through a k.body.statement ≡ true)
-        (λ a i v t may lt h. cell_kept ts s t x j a i v fits lt
-        (λ e f. not_both (stores_through a k.body.statement) may (unstored a i lt e f)) h) k.body.statement (λ a e. e) s
-        (replicate k.scratch (pos 0)) (same_at_first s x j))
+    (λ a i v t may lt h. cell_kept ts s t x j a i v fits lt
+    (λ e f. not_both (stores_through a k.body.statement) may (unstored a i lt e f)) h) k.body.statement (λ a e. e) s
+    (replicate k.scratch (pos 0)) (same_at_first s x j))
 
 -- ---- examples
 

@@ -127,16 +127,16 @@ module _ (ts : List Target) (consts : List ℤ) (s : Store) (ls : List ℤ) wher
       subst (λ c. and_then (val f) (λ z. and_then (index_in c bt z) (λ i. Ok (slice_index_or ls (other_from + i) (pos 0)))) ≡ Ok z) l
       (subst (λ g. and_then (val f) (λ z. and_then (index_in count bt z) (λ i. Ok (slice_index_or ls (g + i) (pos 0)))) ≡ Ok z) k
       (element_other count at bt (val e) (val f) (λ i. slice_index_or ls (from + i) (pos 0)) z
-          (λ x w. same_value e f (and_fourth (nat_eq from other_from) (nat_eq count other_count) (same_form form other_form)
-          (same_tokens e f) h) x w) v))
+      (λ x w. same_value e f (and_fourth (nat_eq from other_from) (nat_eq count other_count) (same_form form other_form)
+      (same_tokens e f) h) x w) v))
   same_value (Const' from count form p e at) (Const' other_from other_count other_form q f bt) h z v =
       let k : from ≡ other_from = eqb-true from other_from (and_first _ _ h) in
       let l : count ≡ other_count = eqb-true count other_count (and_first _ _ (and_second _ _ h)) in
       subst (λ c. and_then (val f) (λ z. and_then (index_in c bt z) (λ i. Ok (slice_index_or consts (other_from + i) (pos 0)))) ≡ Ok z) l
       (subst (λ g. and_then (val f) (λ z. and_then (index_in count bt z) (λ i. Ok (slice_index_or consts (g + i) (pos 0)))) ≡ Ok z) k
       (element_other count at bt (val e) (val f) (λ i. slice_index_or consts (from + i) (pos 0)) z
-          (λ x w. same_value e f (and_fourth (nat_eq from other_from) (nat_eq count other_count) (same_form form other_form)
-          (same_tokens e f) h) x w) v))
+      (λ x w. same_value e f (and_fourth (nat_eq from other_from) (nat_eq count other_count) (same_form form other_form)
+      (same_tokens e f) h) x w) v))
   same_value (Unary' op p a) (Unary' oq q b) h z v =
       let k : op ≡ oq = same_unary_is op oq (and_first _ _ h) in
       subst (λ o. and_then (val b) (λ x. Ok (apply_unary o x)) ≡ Ok z) k

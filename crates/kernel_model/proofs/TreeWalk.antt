@@ -226,17 +226,17 @@ module _ (modes : List Mode) where
     stmt_is (SetArg a form ix at op opat e) cs c found =
         ap (λ w. event_found modes c (target_event w op a (static ix cs) at) (right_found modes w e cs c (expr_found modes ix cs c found))) (side_is a form ix op e)
         ∙ ap (λ o. event_found modes c (target_event (side a form (rexpr_of ix) op (rexpr_of e)) op a o at)
-            (right_found modes (side a form (rexpr_of ix) op (rexpr_of e)) e cs c (expr_found modes ix cs c found))) (index_is ix cs)
+        (right_found modes (side a form (rexpr_of ix) op (rexpr_of e)) e cs c (expr_found modes ix cs c found))) (index_is ix cs)
         ∙ ap (λ f. event_found modes c (target_event (side a form (rexpr_of ix) op (rexpr_of e)) op a (index (rexpr_of ix) cs) at)
-            (right_found modes (side a form (rexpr_of ix) op (rexpr_of e)) e cs c f)) (expr_is ix cs c found)
+        (right_found modes (side a form (rexpr_of ix) op (rexpr_of e)) e cs c f)) (expr_is ix cs c found)
         ∙ ap (event_found modes c (target_event (side a form (rexpr_of ix) op (rexpr_of e)) op a (index (rexpr_of ix) cs) at)) (right_is (side a form (rexpr_of ix) op (rexpr_of e)) e cs c _)
     stmt_is (If' e p a q b) cs c found =
         ap (λ f. stmt_found modes b cs c (stmt_found modes a cs c f)) (expr_is e cs c found) ∙ ap (stmt_found modes b cs c) (stmt_is a cs c _) ∙ stmt_is b cs c _
     stmt_is (For' k first past p body) cs c found =
         ap (λ t. turns_found modes t (λ i d. covered_after body (with_counter cs k (pos i)) d) first (past - first) c found)
-            (fun_ext (λ i. fun_ext (λ d. fun_ext (λ g. stmt_is body (with_counter cs k (pos i)) d g))))
+        (fun_ext (λ i. fun_ext (λ d. fun_ext (λ g. stmt_is body (with_counter cs k (pos i)) d g))))
         ∙ ap (λ f. turns_found modes (λ i d g. in_stmt (rstmt_of body) (with_counter cs k (pos i)) d g) f first (past - first) c found)
-            (fun_ext (λ i. fun_ext (λ d. covered_is body (with_counter cs k (pos i)) d)))
+        (fun_ext (λ i. fun_ext (λ d. covered_is body (with_counter cs k (pos i)) d)))
 
     stmts_are : {m : _} (all : Row_of-RStmt m) (cs : Counters) (c : Covered) (found : Option Breach) → row_found modes all cs c found ≡ in_stmts (rstmts_of_row all) cs c found
     stmts_are end_of-RStmt cs c found = refl
@@ -258,9 +258,9 @@ in_kernel k modes =
 walk_is : (k : RKernel) (modes : List Mode) → walk k modes ≡ in_kernel (rkernel_of k) modes
 walk_is k modes =
     ap (λ c. ends_found (place_of k.body.param_places.items) modes c 0 (length modes)
-        (stmt_found modes k.body.statement no_counters none_covered None)) (covered_is k.body.statement no_counters none_covered)
+    (stmt_found modes k.body.statement no_counters none_covered None)) (covered_is k.body.statement no_counters none_covered)
     ∙ ap (ends_found (place_of k.body.param_places.items) modes (covered (rstmt_of k.body.statement) no_counters none_covered) 0
-        (length modes)) (stmt_is modes k.body.statement no_counters none_covered None)
+    (length modes)) (stmt_is modes k.body.statement no_counters none_covered None)
 
 -- the walk finds the same in kernels with one tree
 pub walks_alike : (k l : RKernel) → rkernel_of k ≡ rkernel_of l → (modes : List Mode) → walk k modes ≡ walk l modes

@@ -54,8 +54,8 @@ module _ (g : MeshValue) (o : Owners) (p : Perms) (r : ℕ) (sets : List LocalSe
       let e = executed_at sets s (any s l) (rw count l) in
       let b : k < length (get_or sets s (any s l)).original = omega (arith, i.own, i.exec, i.inverse.count) in
       rw (at s l) (copy_executed (set_size g s) (perm_in p s) (λ x. owns o s x r) (λ x. imports_execute g o s x r)
-          (λ x. imports_nonexecute g o s x r) (get_or sets s (any s l)).original (perms.numbers s l) i.inverse k
-          (omega (arith, i.own, i.exec)) b)
+      (λ x. imports_nonexecute g o s x r) (get_or sets s (any s l)).original (perms.numbers s l) i.inverse k
+      (omega (arith, i.own, i.exec)) b)
 
   had : (s x : ℕ) → s < set_count g → x < set_size g s → has_copy g o s x r ≡ true → Contains (originals_in sets s) x
   had s x l = rw (at s l) (number_contains (set_size g s) (perm_in p s) (λ x. owns o s x r) (λ x. imports_execute g o s x r)

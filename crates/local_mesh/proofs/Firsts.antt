@@ -89,21 +89,21 @@ module _ (g : MeshValue) (o : Owners) (p : Perms) (r : ℕ) (m : RankMesh) (is :
   owned_first k lk =
       let b : k < length (get_or m.sets.items s some).original = subst (λ (z : List ℕ). k < length z) at lk in
       rw (at, own) (own_first (set_size g s) (by_new p s) (λ x. owns o s x r) (λ x. imports_execute g o s x r)
-          (λ x. imports_nonexecute g o s x r) (get_or m.sets.items s some).original set.inverse k b)
+      (λ x. imports_nonexecute g o s x r) (get_or m.sets.items s some).original set.inverse k b)
 
   pub executing_first : (k : ℕ) → k < length (originals_in m.sets.items s) → (k < executed_in m.sets.items s) ↔ (executes g o s (get_or (originals_in m.sets.items s) k 0) r ≡ true)
   unfolding executes
   executing_first k lk =
       let b : k < length (get_or m.sets.items s some).original = subst (λ (z : List ℕ). k < length z) at lk in
       rw (at, executed) (executed_first (set_size g s) (by_new p s) (λ x. owns o s x r) (λ x. imports_execute g o s x r)
-          (λ x. imports_nonexecute g o s x r) (get_or m.sets.items s some).original set.inverse k b)
+      (λ x. imports_nonexecute g o s x r) (get_or m.sets.items s some).original set.inverse k b)
 
   pub distinct : ArePerms g p → (j k : ℕ) → j < length (originals_in m.sets.items s) → k < length (originals_in m.sets.items s)
       → get_or (originals_in m.sets.items s) j 0 ≡ get_or (originals_in m.sets.items s) k 0 → j ≡ k
   distinct perms j k lj lk e =
       let apart : (i h : ℕ) → i < h → h < length (get_or m.sets.items s some).original → get_or (get_or m.sets.items s some).original i 0 ≡ get_or (get_or m.sets.items s some).original h 0 → ⊥ =
       number_apart (set_size g s) (perm_in p s) (λ x. owns o s x r) (λ x. imports_execute g o s x r) (λ x. imports_nonexecute g o s x r)
-          (get_or m.sets.items s some).original (perms.numbers s l) set.inverse in
+      (get_or m.sets.items s some).original (perms.numbers s l) set.inverse in
       let bj : j < length (get_or m.sets.items s some).original = subst (λ (z : List ℕ). j < length z) at lj in
       let bk : k < length (get_or m.sets.items s some).original = subst (λ (z : List ℕ). k < length z) at lk in
       let f : get_or (get_or m.sets.items s some).original j 0 ≡ get_or (get_or m.sets.items s some).original k 0 = subst (λ (z : List ℕ). get_or z j 0 ≡ get_or z k 0) at e in

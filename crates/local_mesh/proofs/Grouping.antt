@@ -64,8 +64,8 @@ module _ (g : MeshValue) (o : Owners) (p : Perms) (s : ℕ) (owners order : List
   copies_row r xs lr e = e ∙ (ap (λ z. listed z (λ x. nat_eq (get_or owners x 0) r || (stands (row exec r) x || stands (row nonexec r) x))) size_is
       ∙ listed_agree (set_size g s) (λ x. nat_eq (get_or owners x 0) r || (stands (row exec r) x || stands (row nonexec r) x)) (λ x. has_copy g o s x r)
       (λ x l. ap (λ z. z || (stands (row exec r) x || stands (row nonexec r) x)) (owns_is x r)
-          ∙ (ap (λ z. owns o s x r || (z || stands (row nonexec r) x)) (exec_is x r l lr)
-          ∙ ap (λ z. owns o s x r || (imports_execute g o s x r || z)) (nonexec_is x r l lr))))
+      ∙ (ap (λ z. owns o s x r || (z || stands (row nonexec r) x)) (exec_is x r l lr)
+      ∙ ap (λ z. owns o s x r || (imports_execute g o s x r || z)) (nonexec_is x r l lr))))
 
   -- groups by new number, and all copies by original number
   pub groups_are : (t : Groups) (c : Vec (Vec ℕ Global) Global) → length t.own.items ≡ o.ranks

@@ -63,8 +63,8 @@ module _ (n : ℕ) (order : ℕ → ℕ) (p q r : ℕ → Bool) where
   length_all = length-append (ordered n order p ++ ordered n order q) (ordered n order r)
       ∙ (ap (λ z. z + length (ordered n order r)) (length-append (ordered n order p) (ordered n order q))
       ∙ ap (λ z. z) (let a = length-ordered n order p in let b = length-ordered n order q in let c = length-ordered n order r in
-          let e : length (ordered n order p) + length (ordered n order q) + length (ordered n order r) ≡ earlier order p n + earlier order q
-          n + earlier order r n = omega arith in e))
+      let e : length (ordered n order p) + length (ordered n order q) + length (ordered n order r) ≡ earlier order p n + earlier order q
+      n + earlier order r n = omega arith in e))
 
   in_own : (k : ℕ) → k < earlier order p n → get_or all k 0 ≡ get_or (ordered n order p) k 0
   unfolding all
@@ -139,9 +139,13 @@ module _ (n : ℕ) (order : ℕ → ℕ) (p q r : ℕ → Bool) where
       let i : ℕ = k - earlier order p n in
       let s : earlier order p n + i ≡ k = omega arith in
       let a = at_ordered n i order q m2 in
-      let no : p (order a.0) ≡ false = false_from_ne_true (p (order a.0)) (λ e. let z : true ≡ false = sym a.2 ∙ apart.own_exec (order a.0) e in cc) in
-      (a.0, a.1, or_right (p (order a.0)) (q (order a.0) || r (order a.0)) (or_left (q (order a.0)) (r (order a.0)) a.2),
-          ap (λ z. get_or all z 0) (sym s) ∙ (in_exec i m2 ∙ a.3), number_exec a.0 no a.2 ∙ (ap (λ z. earlier order p n + z) a.4 ∙ s)))
+      let no : p (order a.0) ≡ false = false_from_ne_true (p (order a.0)) (λ e. let z : true ≡ false = sym a.2 ∙ apart.own_exec (order a.0) e in cc) in (
+        a.0,
+        a.1,
+        or_right (p (order a.0)) (q (order a.0) || r (order a.0)) (or_left (q (order a.0)) (r (order a.0)) a.2),
+        ap (λ z. get_or all z 0) (sym s) ∙ (in_exec i m2 ∙ a.3),
+        number_exec a.0 no a.2 ∙ (ap (λ z. earlier order p n + z) a.4 ∙ s),
+      ))
       (λ (m2 : earlier order q n ≤ k - earlier order p n).
       let i : ℕ = k - earlier order p n - earlier order q n in
       let s : earlier order p n + earlier order q n + i ≡ k = omega arith in
@@ -149,10 +153,14 @@ module _ (n : ℕ) (order : ℕ → ℕ) (p q r : ℕ → Bool) where
       let li : i < earlier order r n = omega arith in
       let a = at_ordered n i order r li in
       let no : p (order a.0) ≡ false = false_from_ne_true (p (order a.0)) (λ e. let z : true ≡ false = sym a.2 ∙ apart.own_nonexec (order a.0) e in cc) in
-      let no2 : q (order a.0) ≡ false = false_from_ne_true (q (order a.0)) (λ e. let z : true ≡ false = sym a.2 ∙ apart.exec_nonexec (order a.0) e in cc) in
-      (a.0, a.1, or_right (p (order a.0)) (q (order a.0) || r (order a.0)) (or_right (q (order a.0)) (r (order a.0)) a.2),
-          ap (λ z. get_or all z 0) (sym s) ∙ (in_nonexec i ∙ a.3), number_nonexec a.0 no no2
-          ∙ (ap (λ z. earlier order p n + earlier order q n + z) a.4 ∙ s)))
+      let no2 : q (order a.0) ≡ false = false_from_ne_true (q (order a.0)) (λ e. let z : true ≡ false = sym a.2 ∙ apart.exec_nonexec (order a.0) e in cc) in (
+        a.0,
+        a.1,
+        or_right (p (order a.0)) (q (order a.0) || r (order a.0)) (or_right (q (order a.0)) (r (order a.0)) a.2),
+        ap (λ z. get_or all z 0) (sym s) ∙ (in_nonexec i ∙ a.3),
+        number_nonexec a.0 no no2
+            ∙ (ap (λ z. earlier order p n + earlier order q n + z) a.4 ∙ s),
+      ))
       (cases_lt (k - earlier order p n) (earlier order q n)))
       (cases_lt k (earlier order p n))
 
@@ -197,5 +205,5 @@ apart_sum zero order p q r a = omega arith
 apart_sum (suc n) order p q r a =
     let h : earlier order p n + earlier order q n + earlier order r n ≤ n = apart_sum n order p q r a in
     let s : cond {A = ℕ} (p (order n)) 1 0 + cond {A = ℕ} (q (order n)) 1 0 + cond {A = ℕ} (r (order n)) 1 0 ≤ 1 =
-        one_group (p (order n)) (q (order n)) (r (order n)) (a.own_exec (order n)) (a.own_nonexec (order n)) (a.exec_nonexec (order n)) in
+    one_group (p (order n)) (q (order n)) (r (order n)) (a.own_exec (order n)) (a.own_nonexec (order n)) (a.exec_nonexec (order n)) in
     omega arith

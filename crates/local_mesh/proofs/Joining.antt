@@ -34,8 +34,8 @@ module _ (g : MeshValue) (o : Owners) (p : Perms) (s r : ℕ) (a b c : List ℕ)
   numbers_inverse : AreInverse (set_size g s) (by_new p s) (λ x. owns o s x r) (λ x. imports_execute g o s x r) (λ x. imports_nonexecute g o s x r) (a ++ b ++ c)
   numbers_inverse = inverse (set_size g s) (by_new p s) (λ x. owns o s x r) (λ x. imports_execute g o s x r) (λ x. imports_nonexecute g o s x r) (a ++ b ++ c) (groups_apart g o s r)
       (joined a b c (ordered (set_size g s) (by_new p s) (λ x. owns o s x r))
-          (ordered (set_size g s) (by_new p s) (λ x. imports_execute g o s x r))
-          (ordered (set_size g s) (by_new p s) (λ x. imports_nonexecute g o s x r)) own exec nonexec)
+      (ordered (set_size g s) (by_new p s) (λ x. imports_execute g o s x r))
+      (ordered (set_size g s) (by_new p s) (λ x. imports_nonexecute g o s x r)) own exec nonexec)
 
   module _ (perms : IsNumbering (set_size g s) (perm_in p s)) where
     are_parts : set_size g s < 2 ^ 32 → AreParts (set_size g s) (a ++ b ++ c)
@@ -85,7 +85,7 @@ module _ (g : MeshValue) (o : Owners) (p : Perms) (s r : ℕ) (a b c : List ℕ)
     local_set_is h l halo j =
         let n : ℕ = set_size g s in
         let inv = subst (λ (z : List ℕ). AreInverse (set_size g s) (by_new p s) (λ x. owns o s x r) (λ x. imports_execute g o s x r)
-            (λ x. imports_nonexecute g o s x r) z) (sym j.original) numbers_inverse in
+        (λ x. imports_nonexecute g o s x r) z) (sym j.original) numbers_inverse in
         record {
           own = j.own ∙ (ap (length {A = ℕ}) own ∙ length-ordered n (by_new p s) (λ x. owns o s x r));
           exec = j.exec ∙ (ap (length {A = ℕ}) exec ∙ length-ordered n (by_new p s) (λ x. imports_execute g o s x r));
@@ -120,8 +120,11 @@ ready g o p s r t groups lr perms small h room halo le =
     }
   where
     some_copies : (v : Option (Vec (Vec ℕ Global) Global)) → IfSome v (λ d. AreCopies g o s d.items) → IfSome v (λ d. (r < length d.items) × AreSorted (numbers_of r t) (row d.items r))
-    some_copies (Some d) h = (rw h.count lr, are_sorted g o p s r (row t.own.items r) (row t.exec.items r) (row t.nonexec.items r)
-        (groups.own r lr) (groups.exec r lr) (groups.nonexec r lr) perms (row d.items r) (h.each r lr))
+    some_copies (Some d) h = (
+      rw h.count lr,
+      are_sorted g o p s r (row t.own.items r) (row t.exec.items r) (row t.nonexec.items r)
+          (groups.own r lr) (groups.exec r lr) (groups.nonexec r lr) perms (row d.items r) (h.each r lr),
+    )
     some_copies None h = h
 
     none_rising : (v : Option (Vec (Vec ℕ Global) Global)) → IfNone v (IsKept (set_size g s) (by_new p s))

@@ -52,8 +52,8 @@ module _ (g : MeshValue) (sets : List LocalSet) where
   disjoint d l i e k j ll li lk lj s = ⊎_elim
       (λ (q : d ≡ e).
       let t : l * dat_dim g e + i ≡ k * dat_dim g e + j =
-          (let u : cells_before g sets e + l * dat_dim g e + i ≡ cells_before g sets e + k * dat_dim g e + j =
-          subst (λ z. cells_before g sets z + l * dat_dim g z + i ≡ cells_before g sets e + k * dat_dim g e + j) q s in omega arith) in
+      (let u : cells_before g sets e + l * dat_dim g e + i ≡ cells_before g sets e + k * dat_dim g e + j =
+      subst (λ z. cells_before g sets z + l * dat_dim g z + i ≡ cells_before g sets e + k * dat_dim g e + j) q s in omega arith) in
       let r = row_apart (dat_dim g e) l i k j (subst (λ z. i < dat_dim g z) q li) lj t in
       (q, r.0, r.1))
       (λ (o : (d < e) ⊎ (e < d)). ⊎_elim

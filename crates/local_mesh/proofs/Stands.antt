@@ -18,7 +18,7 @@ stands_listed n p xs y e l = ap (λ (z : List ℕ). any_below (length z) (λ k. 
     let a = at_listed n w.0 0 p (rw (← length_listed n p) w.1) in
     subst (λ z. p z ≡ true) (eqb-true (get_or (listed n p) w.0 0) y w.2) a.1)
     (λ t. any_from (length (listed n p)) (λ k. nat_eq (get_or (listed n p) k 0) y) (count_below y p)
-        (rw (length_listed n p) (count_lt y n p l t)) (eq-eqb (get_or (listed n p) (count_below y p) 0) y (listed_at n y 0 p l t)))
+    (rw (length_listed n p) (count_lt y n p l t)) (eq-eqb (get_or (listed n p) (count_below y p) 0) y (listed_at n y 0 p l t)))
 
 -- nothing stands in no list
 pub stands_nothing : (y : ℕ) → stands [] y ≡ false

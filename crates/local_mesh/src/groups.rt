@@ -7,9 +7,9 @@ ghost use Rattle.local_mesh.specs.RankSet.{has, has_at};
 ghost use Rattle.local_mesh.specs.Local.{ordered};
 ghost use Rattle.local_mesh.specs.Standing.{stands};
 
+use crate::rank_sets::{RankSet, push_each};
 use crate::types::Groups;
 use op_num::OutOfMemory;
-use crate::rank_sets::{RankSet, push_each};
 use std::alloc::Global;
 
 /// How many elements each rank owns.

@@ -19,6 +19,7 @@ mod split;
 mod types;
 mod whole;
 
+use crate::rank_sets::RankSet;
 pub use fit::owners_fit;
 pub use laws::{
     core_targets_are_owned, execute_halo_owns_a_target, executed_targets_are_copies,
@@ -28,7 +29,6 @@ use masks::executing_all;
 use mesh_decl::{Mesh, Owners};
 use named::naming_all;
 use op_num::OutOfMemory;
-use crate::rank_sets::RankSet;
 use split::set_halo;
 use std::alloc::Global;
 pub use types::{Halos, SetHalo};

@@ -168,7 +168,7 @@ module _ (places : List Pos) where
       bounds_caused a f =
           caused_then (judged_static places a.declared.names f.from) _ (static_caused a.declared.names f.from)
           (λ from. caused_then (judged_static places (with_counter places consts entries a f.name).declared.names f.to) _
-              (static_caused (with_counter places consts entries a f.name).declared.names f.to) (λ to. tt))
+          (static_caused (with_counter places consts entries a f.name).declared.names f.to) (λ to. tt))
 
       mutual
         host_caused : (a : Walked) (w : Spot) (h : HostTree) → Caused (judged_host places consts entries a w h)

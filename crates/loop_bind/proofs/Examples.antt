@@ -103,8 +103,13 @@ vars_of r = r >>= λ w. trace w.declared.mesh (happens w) >>= λ u. Ok (with_tol
 
 abbrev assigned : Judged Walked
 assigned = read [] [] (file_declares false (tree.Init (named (codes "x") 0) (n_ 5) ∷ []) ∷ [])
-    (tree.HostAssign (record { place = tree.Scalar (named (codes "x") 11); op = assign.Set; at = 12; value =
-    tree.Binary binary.Add 14 (x_ (codes "x")) (n_ 1) }) ∷ prints (x_ (codes "x") ∷ []) ∷ [])
+    (tree.HostAssign (record {
+      place = tree.Scalar (named (codes "x") 11);
+      op = assign.Set;
+      at = 12;
+      value =
+          tree.Binary binary.Add 14 (x_ (codes "x")) (n_ 1);
+    }) ∷ prints (x_ (codes "x") ∷ []) ∷ [])
 
 -- a variable of the file stays a variable
 file_variable_is_read : trace_of assigned ≡ Ok

@@ -53,12 +53,12 @@ module _ (cs : List ConstDecl) (fs : List FileVariable) (apart : NamesApart fs) 
   const_goes : (done : List (List ℕ)) (in_for is_nested : Bool) (a : Walked) (x : List ℕ) (e : ExprTree) → Have done a → Gives (Have done) (const_at places in_for is_nested a x e)
   const_goes done true is_nested a x e h =
       gives_then (λ (v : Asked). Unit {0}) (Have done) (judged_static places a.declared.names e)
-          (λ v. Ok (does (Fix v None) (behind a (with_turning places a.declared x)))) (gives_any (judged_static places a.declared.names e))
+      (λ v. Ok (does (Fix v None) (behind a (with_turning places a.declared x)))) (gives_any (judged_static places a.declared.names e))
       (λ v u. name_goes cs fs apart done a.declared x (m.Turning (told_later a.declared.names)) h tt)
   const_goes done false true a x e h =
       gives_then (λ (v : Asked). Unit {0}) (Have done) (judged_static places a.declared.names e)
-          (λ v. Ok (does (Fix v (Some (length a.declared.vars))) (behind a (with_fixed_later places a.declared x))))
-          (gives_any (judged_static places a.declared.names e))
+      (λ v. Ok (does (Fix v (Some (length a.declared.vars))) (behind a (with_fixed_later places a.declared x))))
+      (gives_any (judged_static places a.declared.names e))
       (λ v u. both_go cs fs apart done a.declared x (m.FixedLater (told_later a.declared.names) (next_cells a.declared false false 1)) (unchanging x (pos 0) None) h refl tt)
   const_goes done false false a x e h =
       gives_then (λ (z : ℤ). Unit {0}) (Have done) (judged_value places a.declared.names e) (λ z. Ok (behind a (with_fixed places a.declared x z))) (gives_any (judged_value places a.declared.names e))
@@ -106,8 +106,8 @@ module _ (cs : List ConstDecl) (fs : List FileVariable) (apart : NamesApart fs) 
       let j = after_globals es args k in
       let i = globals_go cs fs apart es done k args h in
       gives_unless (MainConsts cs fs apart done) (loop_found places es j t f on args)
-          (record j { sites = j.sites ++ site places es j t f on args ∷ [] })
-          (λ none. record { tagged = i.tagged; file = i.file; own = i.own })
+      (record j { sites = j.sites ++ site places es j t f on args ∷ [] })
+      (λ none. record { tagged = i.tagged; file = i.file; own = i.own })
 
   unless_goes : (done : List (List ℕ)) (all : List Found) (b : Walked) → Have done b → Gives (Have done) (unless_found all b)
   unless_goes done all b h = gives_unless (Have done) all b (λ none. h)
@@ -132,7 +132,7 @@ module _ (cs : List ConstDecl) (fs : List FileVariable) (apart : NamesApart fs) 
   call_goes done a w (tree.ParLoop at f l on args) h =
       none_more done (judged_call places cs es a w (tree.ParLoop at f l on args))
       (gives_then (MainConsts cs fs apart done) (Have done) (judged_loop places es a.declared at f on args)
-          (λ k. Ok (does (Loop (length a.declared.sites)) (behind a k))) (loop_goes done a.declared at f on args h) (λ k i. i))
+      (λ k. Ok (does (Loop (length a.declared.sites)) (behind a k))) (loop_goes done a.declared at f on args h) (λ k i. i))
   call_goes done a w (tree.Printf at l xs) h =
       none_more done (judged_call places cs es a w (tree.Printf at l xs))
       (unless_goes done (line_found places cs es at l (length xs) (conversions l.text)) (does (Do (Line l.text (map (resolved places a.declared.names) xs))) a) h)
@@ -156,43 +156,43 @@ module _ (cs : List ConstDecl) (fs : List FileVariable) (apart : NamesApart fs) 
     host_goes done a w (tree.HostDeclaration v) h = none_more done (judged_declrs places a w v.is_const v.declrs) (declrs_go done a w v.is_const v.declrs h)
     host_goes done a w (tree.HostBlock at hs) h =
         gives_then (Have (done ++ all_constant_names hs)) (Have (done ++ all_constant_names hs))
-            (judged_hosts places cs es (opened places cs es a) (nested w) hs) (λ b. Ok (ended places cs es a (Block b.steps) b))
-            (hosts_go done (opened places cs es a) (nested w) hs h)
+        (judged_hosts places cs es (opened places cs es a) (nested w) hs) (λ b. Ok (ended places cs es a (Block b.steps) b))
+        (hosts_go done (opened places cs es a) (nested w) hs h)
         (λ b i. closed_goes (done ++ all_constant_names hs) a.declared b.declared i)
     host_goes done a w (tree.HostEmpty at) h = none_more done (Ok a) h
     host_goes done a w (tree.HostAssign e) h = none_more done (judged_host places cs es a w (tree.HostAssign e)) h
     host_goes done a w (tree.HostIf at e x) h =
         gives_then (λ (c : Asked). Unit {0}) (Have (done ++ constant_names x)) (judged_static places a.declared.names e)
-            (λ c. judged_host places cs es (opened places cs es a) (nested w) x >>= λ b. Ok
-            (followed_by places cs es a (Choose c (Block b.steps) (Block NoStep)) b)) (gives_any (judged_static places a.declared.names e))
+        (λ c. judged_host places cs es (opened places cs es a) (nested w) x >>= λ b. Ok
+        (followed_by places cs es a (Choose c (Block b.steps) (Block NoStep)) b)) (gives_any (judged_static places a.declared.names e))
         (λ c u. gives_then (Have (done ++ constant_names x)) (Have (done ++ constant_names x))
-            (judged_host places cs es (opened places cs es a) (nested w) x)
-            (λ b. Ok (followed_by places cs es a (Choose c (Block b.steps) (Block NoStep)) b))
-            (host_goes done (opened places cs es a) (nested w) x h) (λ b i. i))
+        (judged_host places cs es (opened places cs es a) (nested w) x)
+        (λ b. Ok (followed_by places cs es a (Choose c (Block b.steps) (Block NoStep)) b))
+        (host_goes done (opened places cs es a) (nested w) x h) (λ b i. i))
     host_goes done a w (tree.HostIfElse at e x y) h =
         let d1 = done ++ constant_names x in
         gives_then (λ (c : Asked). Unit {0}) (Have (done ++ (constant_names x ++ constant_names y))) (judged_static places a.declared.names e)
         (λ c. judged_host places cs es (opened places cs es a) (nested w) x >>= λ b. judged_host places cs es (opened places cs es b)
-            (nested w) y >>= λ d. Ok (followed_by places cs es a (Choose c (Block b.steps) (Block d.steps)) d))
+        (nested w) y >>= λ d. Ok (followed_by places cs es a (Choose c (Block b.steps) (Block d.steps)) d))
         (gives_any (judged_static places a.declared.names e))
         (λ c u. gives_then (Have d1) (Have (done ++ (constant_names x ++ constant_names y))) (judged_host places cs es (opened places cs es a) (nested w) x)
         (λ b. judged_host places cs es (opened places cs es b) (nested w) y >>= λ d. Ok (followed_by places cs es a (Choose c (Block b.steps) (Block d.steps)) d))
         (host_goes done (opened places cs es a) (nested w) x h)
         (λ b i. gives_then (Have (done ++ (constant_names x ++ constant_names y))) (Have (done ++ (constant_names x ++ constant_names y)))
-            (judged_host places cs es (opened places cs es b) (nested w) y)
+        (judged_host places cs es (opened places cs es b) (nested w) y)
         (λ d. Ok (followed_by places cs es a (Choose c (Block b.steps) (Block d.steps)) d))
         (moved (judged_host places cs es (opened places cs es b) (nested w) y) (d1 ++ constant_names y)
-            (done ++ (constant_names x ++ constant_names y)) (append_assoc done (constant_names x) (constant_names y))
-            (host_goes d1 (opened places cs es b) (nested w) y i))
+        (done ++ (constant_names x ++ constant_names y)) (append_assoc done (constant_names x) (constant_names y))
+        (host_goes d1 (opened places cs es b) (nested w) y i))
         (λ d j. j)))
     host_goes done a w (tree.HostFor f x) h =
         gives_then (λ (r : Asked × Asked). Unit {0}) (Have (done ++ constant_names x)) (judged_bounds places cs es a f)
-            (λ r. judged_host places cs es (with_counter places cs es a f.name) turning x >>= λ b. Ok
-            (ended places cs es a (Repeat r.0 r.1 (Block b.steps)) b)) (gives_any (judged_bounds places cs es a f))
+        (λ r. judged_host places cs es (with_counter places cs es a f.name) turning x >>= λ b. Ok
+        (ended places cs es a (Repeat r.0 r.1 (Block b.steps)) b)) (gives_any (judged_bounds places cs es a f))
         (λ r u. gives_then (Have (done ++ constant_names x)) (Have (done ++ constant_names x))
-            (judged_host places cs es (with_counter places cs es a f.name) turning x)
-            (λ b. Ok (ended places cs es a (Repeat r.0 r.1 (Block b.steps)) b))
-            (host_goes done (with_counter places cs es a f.name) turning x (counter_goes done a f.name h))
+        (judged_host places cs es (with_counter places cs es a f.name) turning x)
+        (λ b. Ok (ended places cs es a (Repeat r.0 r.1 (Block b.steps)) b))
+        (host_goes done (with_counter places cs es a f.name) turning x (counter_goes done a f.name h))
         (λ b i. closed_goes (done ++ constant_names x) a.declared b.declared i))
     host_goes done a w (tree.HostCall c) h = call_goes done a w c h
 
@@ -200,7 +200,7 @@ module _ (cs : List ConstDecl) (fs : List FileVariable) (apart : NamesApart fs) 
     hosts_go done a w tree.NoHost h = none_more done (Ok a) h
     hosts_go done a w (tree.MoreHost x xs) h =
         gives_then (Have (done ++ constant_names x)) (Have (done ++ (constant_names x ++ all_constant_names xs)))
-            (judged_host places cs es a w x) (λ b. judged_hosts places cs es b w xs) (host_goes done a w x h)
+        (judged_host places cs es a w x) (λ b. judged_hosts places cs es b w xs) (host_goes done a w x h)
         (λ b i. moved (judged_hosts places cs es b w xs) ((done ++ constant_names x) ++ all_constant_names xs)
-            (done ++ (constant_names x ++ all_constant_names xs)) (append_assoc done (constant_names x) (all_constant_names xs))
-            (hosts_go (done ++ constant_names x) b w xs i))
+        (done ++ (constant_names x ++ all_constant_names xs)) (append_assoc done (constant_names x) (all_constant_names xs))
+        (hosts_go (done ++ constant_names x) b w xs i))

@@ -107,8 +107,8 @@ lies n (x ∷ vs) cs f h v first l e = pick (λ k ds g m w lt q. lies k vs ds g 
   where
     pick : ((k : ℕ) (ds : List ConstDecl) → FollowOn k ds → Match vs ds → (w : ℕ) → w < length vs → (at vs w).constant ≡ Some first → Lies k ds first (length (at vs w).start))
         → (v : ℕ) → v < length (x ∷ vs) → (o : Option ℕ) → x.constant ≡ o → (cs : List ConstDecl) → FollowOn n cs
-            → Ahead o (length x.start) cs (Match vs) → (at (x ∷ vs) v).constant ≡ Some first
-            → Lies n cs first (length (at (x ∷ vs) v).start)
+        → Ahead o (length x.start) cs (Match vs) → (at (x ∷ vs) v).constant ≡ Some first
+        → Lies n cs first (length (at (x ∷ vs) v).start)
     pick rest zero l None q cs f h e = none_some first (sym q ∙ e)
     pick rest zero l (Some g) q [] f h e = absurd h
     pick rest zero l (Some g) q (c ∷ cs) f h e =
@@ -219,4 +219,4 @@ module _ (b : BoundValue) (cs : List ConstDecl) (follow : FollowOn 0 cs) (fits :
   kernels_fit [] h u = All-nil (KernelFits b)
   kernels_fit (k ∷ ks) h u =
       All-cons (KernelFits b) k ks (kernel_fits k h.0 (All-head (λ (k : RKernel). UsesConstants (AreOfOne cs) k.body.statement) k ks u))
-          (kernels_fit ks h.1 (All-tail (λ (k : RKernel). UsesConstants (AreOfOne cs) k.body.statement) k ks u))
+      (kernels_fit ks h.1 (All-tail (λ (k : RKernel). UsesConstants (AreOfOne cs) k.body.statement) k ks u))

@@ -81,10 +81,13 @@ apart = (
 )
 
 tops_read : All TopIsRead tops
-tops_read = All-from_recursion TopIsRead tops
-    (All-from_recursion IsRead (x_declr ∷ []) (tt, tt),
-    (All-from_recursion IsRead (five ∷ []) (record { sfits = omega arith }, tt),
-    (All-from_recursion IsRead (a_declr ∷ []) (omega arith, tt), tt)))
+tops_read = All-from_recursion TopIsRead tops (
+  All-from_recursion IsRead (x_declr ∷ []) (tt, tt),
+  (
+    All-from_recursion IsRead (five ∷ []) (record { sfits = omega arith }, tt),
+    (All-from_recursion IsRead (a_declr ∷ []) (omega arith, tt), tt),
+  ),
+)
 
 body_read : HostsAreRead body
 body_read = ((tt, record { sfits = omega arith }), (tt, (All-from_recursion HasNumbers (tree.Name (named (codes "c")) ∷ []) (tt, tt), tt)))

@@ -129,10 +129,11 @@ module _ (ks : List RKernel) (es : List Named) where
         file = m.file;
         own = m.own;
         mine = m.mine;
-        externs = All-push (ExternFits es k.names.file (k.vars ++ extern_var x zs ∷ [])) k.externs (x, length k.vars) m.externs
-            (omega (arith, length_push k.vars (extern_var x zs)),
-                subst (λ n. HasValues es x n (named_in k.names.file x))
-                (sym (ap (λ (y : VarValue). length y.start) (at_last k.vars (extern_var x zs)))) v);
+        externs = All-push (ExternFits es k.names.file (k.vars ++ extern_var x zs ∷ [])) k.externs (x, length k.vars) m.externs (
+          omega (arith, length_push k.vars (extern_var x zs)),
+          subst (λ n. HasValues es x n (named_in k.names.file x))
+              (sym (ap (λ (y : VarValue). length y.start) (at_last k.vars (extern_var x zs)))) v,
+        );
         sites = m.sites;
       }
 

@@ -98,7 +98,7 @@ module _ (ks : List RKernel) (es : List Named) where
         (top-var k (changing x.name (pos 0 ∷ [])) h) (next-fits ks es k (changing x.name (pos 0 ∷ [])) true false 1 refl (omega arith))
     file_declr k c (tree.Init x e) h r =
         gives_then Num (TopLawful ks es) (judged_value places k.names e) (λ z. Ok (with_file_value places consts k c x.name z))
-            (value_is_num ks es places k h.lawful e r) (λ z f. with-value k c x.name z h f)
+        (value_is_num ks es places k h.lawful e r) (λ z f. with-value k c x.name z h f)
     file_declr k c (tree.Array x n) h r =
         let v = changing x.name (replicate (count_of n) (pos 0)) in
         top-name (with_var v k) x.name (Variable (next_cells k true true (count_of n))) (top-var k v h) (next-fits ks es k v true true (count_of n) (length-replicate (count_of n) (pos 0)) r)
@@ -134,7 +134,7 @@ module _ (ks : List RKernel) (es : List Named) where
     declrs-kernels n k c [] e = e
     declrs-kernels n k c (d ∷ ds) e =
         gives_then (λ (l : Declared). l.kernels ≡ n) (λ (l : Declared). l.kernels ≡ n) (judged_file_declr places consts k c d)
-            (λ l. judged_file_declrs places consts l c ds) (one d) (λ l f. declrs-kernels n l c ds f)
+        (λ l. judged_file_declrs places consts l c ds) (one d) (λ l f. declrs-kernels n l c ds f)
       where
         value-kernels : (c : Bool) (x : List ℕ) (z : ℤ) → (with_file_value places consts k c x z).kernels ≡ n
         value-kernels false x z = e

@@ -89,11 +89,11 @@ module _ (cs : List ConstDecl) where
     declr_is fs c (tree.Plain x) k h = next fs (declr_variable c (tree.Plain x)) k (changing x.name (pos 0 ∷ [])) (m.Variable (next_cells k true false 1)) h (refl, refl) (λ i. i)
     declr_is fs c (tree.Init x e) k h =
         gives_then (λ z. Unit {0}) (FileConsts (fs ++ declr_variable c (tree.Init x e) ∷ [])) (judged_value places k.names e)
-            (λ z. Ok (with_file_value places cs k c x.name z)) (gives_any (judged_value places k.names e))
-            (λ z u. value_is fs c x.name z k h)
+        (λ z. Ok (with_file_value places cs k c x.name z)) (gives_any (judged_value places k.names e))
+        (λ z u. value_is fs c x.name z k h)
     declr_is fs c (tree.Array x n) k h =
         next fs (declr_variable c (tree.Array x n)) k (changing x.name (replicate (count_of n) (pos 0)))
-            (m.Variable (next_cells k true true (count_of n))) h (refl, length-replicate (count_of n) (pos 0)) (λ i. i)
+        (m.Variable (next_cells k true true (count_of n))) h (refl, length-replicate (count_of n) (pos 0)) (λ i. i)
 
     moved : (fs gs : List FileVariable) (r : Judged Declared) → fs ≡ gs → Gives (FileConsts fs) r → Gives (FileConsts gs) r
     moved fs gs r e h = subst (λ l. Gives (FileConsts l) r) e h
@@ -102,10 +102,10 @@ module _ (cs : List ConstDecl) where
     declrs_are fs c [] k h = subst (λ l. FileConsts l k) (sym (append-nil fs)) h
     declrs_are fs c (d ∷ ds) k h =
         gives_then (FileConsts (fs ++ declr_variable c d ∷ [])) (FileConsts (fs ++ declr_variable c d ∷ declrs_variables c ds))
-            (judged_file_declr places cs k c d) (λ l. judged_file_declrs places cs l c ds) (declr_is fs c d k h)
+        (judged_file_declr places cs k c d) (λ l. judged_file_declrs places cs l c ds) (declr_is fs c d k h)
         (λ l i. moved ((fs ++ declr_variable c d ∷ []) ++ declrs_variables c ds) (fs ++ declr_variable c d ∷ declrs_variables c ds)
-            (judged_file_declrs places cs l c ds) (append_assoc fs (declr_variable c d ∷ []) (declrs_variables c ds))
-            (declrs_are (fs ++ declr_variable c d ∷ []) c ds l i))
+        (judged_file_declrs places cs l c ds) (append_assoc fs (declr_variable c d ∷ []) (declrs_variables c ds))
+        (declrs_are (fs ++ declr_variable c d ∷ []) c ds l i))
 
     extern-is : (fs : List FileVariable) (k : Declared) (x : Ident) (e : Option Entry) → FileConsts fs k → Gives (FileConsts (fs ++ [])) (judged_extern places cs es k x e)
     extern-is fs k x (Some (One z)) h = subst (λ l. FileConsts l (with_file_name x.name (m.Extern z) k)) (sym (append-nil fs)) (other fs k x.name (m.Extern z) h tt)
@@ -131,5 +131,5 @@ module _ (cs : List ConstDecl) where
     tops_are_consts fs k (t ∷ ts) h =
         gives_then (FileConsts (fs ++ top_variables t)) (FileConsts (fs ++ (top_variables t ++ file_variables ts))) (judged_top places cs es k t) (λ l. judged_tops places cs es l ts) (top_is fs k t h)
         (λ l i. moved ((fs ++ top_variables t) ++ file_variables ts) (fs ++ (top_variables t ++ file_variables ts))
-            (judged_tops places cs es l ts) (append_assoc fs (top_variables t) (file_variables ts))
-            (tops_are_consts (fs ++ top_variables t) l ts i))
+        (judged_tops places cs es l ts) (append_assoc fs (top_variables t) (file_variables ts))
+        (tops_are_consts (fs ++ top_variables t) l ts i))

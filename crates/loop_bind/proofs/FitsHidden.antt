@@ -104,38 +104,38 @@ module _ (cs : List ConstDecl) (fs : List FileVariable) (apart : NamesApart fs) 
     host_unhidden done own a w (tree.HostDeclaration v) h s = gives_any (judged_host places cs es a w (tree.HostDeclaration v))
     host_unhidden done own a w (tree.HostBlock at hs) h s =
         gives_then (λ (b : Walked). AllNameNoOwn own hs) (λ (b : Walked). AllNameNoOwn own hs)
-            (judged_hosts places cs es (opened places cs es a) (nested w) hs) (λ b. Ok (ended places cs es a (Block b.steps) b))
+        (judged_hosts places cs es (opened places cs es a) (nested w) hs) (λ b. Ok (ended places cs es a (Block b.steps) b))
         (hosts_unhidden done own (opened places cs es a) (nested w) hs h s) (λ b i. i)
     host_unhidden done own a w (tree.HostEmpty at) h s = gives_any (judged_host places cs es a w (tree.HostEmpty at))
     host_unhidden done own a w (tree.HostAssign e) h s = gives_any (judged_host places cs es a w (tree.HostAssign e))
     host_unhidden done own a w (tree.HostIf at e x) h s =
         gives_then (λ (c : Asked). Unit {0}) (λ (b : Walked). NamesNoOwn own x) (judged_static places a.declared.names e)
-            (λ c. judged_host places cs es (opened places cs es a) (nested w) x >>= λ b. Ok
-            (followed_by places cs es a (Choose c (Block b.steps) (Block NoStep)) b)) (gives_any (judged_static places a.declared.names e))
+        (λ c. judged_host places cs es (opened places cs es a) (nested w) x >>= λ b. Ok
+        (followed_by places cs es a (Choose c (Block b.steps) (Block NoStep)) b)) (gives_any (judged_static places a.declared.names e))
         (λ c u. gives_then (λ (b : Walked). NamesNoOwn own x) (λ (b : Walked). NamesNoOwn own x)
-            (judged_host places cs es (opened places cs es a) (nested w) x)
-            (λ b. Ok (followed_by places cs es a (Choose c (Block b.steps) (Block NoStep)) b))
+        (judged_host places cs es (opened places cs es a) (nested w) x)
+        (λ b. Ok (followed_by places cs es a (Choose c (Block b.steps) (Block NoStep)) b))
         (host_unhidden done own (opened places cs es a) (nested w) x h s) (λ b i. i))
     host_unhidden done own a w (tree.HostIfElse at e x y) h s =
         let o = after_host own x in
         gives_then (λ (c : Asked). Unit {0}) (λ (b : Walked). NamesNoOwn own x × NamesNoOwn o y) (judged_static places a.declared.names e)
         (λ c. judged_host places cs es (opened places cs es a) (nested w) x >>= λ b. judged_host places cs es (opened places cs es b)
-            (nested w) y >>= λ d. Ok (followed_by places cs es a (Choose c (Block b.steps) (Block d.steps)) d))
+        (nested w) y >>= λ d. Ok (followed_by places cs es a (Choose c (Block b.steps) (Block d.steps)) d))
         (gives_any (judged_static places a.declared.names e))
         (λ c u. gives_then (On done own x) (λ (b : Walked). NamesNoOwn own x × NamesNoOwn o y) (judged_host places cs es (opened places cs es a) (nested w) x)
         (λ b. judged_host places cs es (opened places cs es b) (nested w) y >>= λ d. Ok (followed_by places cs es a (Choose c (Block b.steps) (Block d.steps)) d))
         (host_on done own (opened places cs es a) (nested w) x h s (host_unhidden done own (opened places cs es a) (nested w) x h s))
         (λ b i. gives_then (λ (d : Walked). NamesNoOwn o y) (λ (d : Walked). NamesNoOwn own x × NamesNoOwn o y) (judged_host places cs es (opened places cs es b) (nested w) y)
         (λ d. Ok (followed_by places cs es a (Choose c (Block b.steps) (Block d.steps)) d))
-            (host_unhidden (done ++ constant_names x) o (opened places cs es b) (nested w) y i.2 i.1) (λ d j. (i.0, j))))
+        (host_unhidden (done ++ constant_names x) o (opened places cs es b) (nested w) y i.2 i.1) (λ d j. (i.0, j))))
     host_unhidden done own a w (tree.HostFor f x) h s =
         let o = knows f.name.name false own in
         gives_then (λ (r : Asked × Asked). Unit {0}) (λ (b : Walked). NamesNoOwn o x) (judged_bounds places cs es a f)
-            (λ r. judged_host places cs es (with_counter places cs es a f.name) turning x >>= λ b. Ok
-            (ended places cs es a (Repeat r.0 r.1 (Block b.steps)) b)) (gives_any (judged_bounds places cs es a f))
+        (λ r. judged_host places cs es (with_counter places cs es a f.name) turning x >>= λ b. Ok
+        (ended places cs es a (Repeat r.0 r.1 (Block b.steps)) b)) (gives_any (judged_bounds places cs es a f))
         (λ r u. gives_then (λ (b : Walked). NamesNoOwn o x) (λ (b : Walked). NamesNoOwn o x)
-            (judged_host places cs es (with_counter places cs es a f.name) turning x)
-            (λ b. Ok (ended places cs es a (Repeat r.0 r.1 (Block b.steps)) b))
+        (judged_host places cs es (with_counter places cs es a f.name) turning x)
+        (λ b. Ok (ended places cs es a (Repeat r.0 r.1 (Block b.steps)) b))
         (host_unhidden done o (with_counter places cs es a f.name) turning x (counter_goes cs fs apart places es done a f.name h) (counter_scoped places cs es file own a f.name s)) (λ b i. i))
     host_unhidden done own a w (tree.HostCall c) h s = call_unhidden done own a w c h s
 
@@ -145,7 +145,7 @@ module _ (cs : List ConstDecl) (fs : List FileVariable) (apart : NamesApart fs) 
     hosts_unhidden done own a w (tree.MoreHost x xs) h s =
         let o = after_host own x in
         gives_then (On done own x) (λ (b : Walked). NamesNoOwn own x × AllNameNoOwn o xs) (judged_host places cs es a w x)
-            (λ b. judged_hosts places cs es b w xs) (host_on done own a w x h s (host_unhidden done own a w x h s))
+        (λ b. judged_hosts places cs es b w xs) (host_on done own a w x h s (host_unhidden done own a w x h s))
         (λ b i. with_first (judged_hosts places cs es b w xs) i.0 (hosts_unhidden (done ++ constant_names x) o b w xs i.2 i.1))
       where
         with_first : (j : Judged Walked) → NamesNoOwn own x → Gives (λ (b : Walked). AllNameNoOwn (after_host own x) xs) j

@@ -172,13 +172,17 @@ module _ (ks : List RKernel) (es : List Named) (places : List Pos) (k : Declared
       let f4 = found_if places (is_reserved v.is_kept a) a_at refusal.ReservedAccess in
       let e123 : f1 ++ f2 ++ f3 ≡ [] = left_nil (f1 ++ f2 ++ f3) f4 e in
       let dim = or_parts (nat_eq (count_of n) 0) (not (nat_eq (count_of n) v.count))
-          (not_if places (is_wrong_dim (Some v.count) (count_of n)) n.at refusal.DimMismatch (right_nil (f1 ++ f2) f3 e123)) in
+      (not_if places (is_wrong_dim (Some v.count) (count_of n)) n.at refusal.DimMismatch (right_nil (f1 ++ f2) f3 e123)) in
       let some : 0 < count_of n = positive (count_of n) dim.0 in
       let same : count_of n ≡ v.count = equal_from_not (count_of n) v.count dim.1 in
       record {
-        fits = (f.var, omega (arith, f.start, some, same), omega (arith, f.start, l, same),
-            access_fits a v.is_kept (at k.vars v.var).constant
-            (not_if places (is_reserved v.is_kept a) a_at refusal.ReservedAccess (right_nil (f1 ++ f2 ++ f3) f4 e)) f.kept);
+        fits = (
+          f.var,
+          omega (arith, f.start, some, same),
+          omega (arith, f.start, l, same),
+          access_fits a v.is_kept (at k.vars v.var).constant
+              (not_if places (is_reserved v.is_kept a) a_at refusal.ReservedAccess (right_nil (f1 ++ f2 ++ f3) f4 e)) f.kept,
+        );
         away = away_global before v.var a (not_if places (is_twice before v.var a) (glob_token places g) refusal.GlobalTwice (right_nil f1 f2 (left_nil (f1 ++ f2) f3 e123)));
       }
 

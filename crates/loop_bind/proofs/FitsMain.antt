@@ -188,23 +188,23 @@ module _ (ks : List RKernel) (es : List Named) where
     const_is : (in_for is_nested : Bool) (a : Walked) (x : List ℕ) (e : ExprTree) → Walks ks es a → HasNumbers e → Gives (WalksOn ks es a.declared) (const_at places in_for is_nested a x e)
     const_is true is_nested a x e w f =
         gives_then (λ (v : Asked). Within a.declared.cells v.value) (WalksOn ks es a.declared) (judged_static places a.declared.names e)
-            (λ v. Ok (does (Fix v None) (behind a (with_turning places a.declared x)))) (static_within ks es places a.declared w.lawful e f)
+        (λ v. Ok (does (Fix v None) (behind a (with_turning places a.declared x)))) (static_within ks es places a.declared w.lawful e f)
         (λ v i. walks_does a (with_turning places a.declared x) (Fix v None) w (goes_name a.declared x (Turning (told_later a.declared.names)) w.lawful tt tt) (i, tt))
     const_is false true a x e w f =
         let k = a.declared in
         let var = unchanging x (pos 0) None in
         let later = next-fits ks es k var false false 1 refl (omega arith) in
         gives_then (λ (v : Asked). Within k.cells v.value) (WalksOn ks es k) (judged_static places k.names e)
-            (λ v. Ok (does (Fix v (Some (length k.vars))) (behind a (with_fixed_later places k x))))
-            (static_within ks es places k w.lawful e f)
+        (λ v. Ok (does (Fix v (Some (length k.vars))) (behind a (with_fixed_later places k x))))
+        (static_within ks es places k w.lawful e f)
         (λ v i. walks_does a (with_fixed_later places k x) (Fix v (Some (length k.vars))) w (goes_var k x (FixedLater (told_later k.names) (next_cells k false false 1)) var w.lawful later tt)
         (within_more k.cells (k.cells + 1) (omega arith) v.value i, record { var = later.var; one = later.start }))
     const_is false false a x e w f =
         let k = a.declared in
         gives_then Num (WalksOn ks es k) (judged_value places k.names e) (λ z. Ok (behind a (with_fixed places k x z))) (value_is_num ks es places k w.lawful e f)
         (λ z i. walks_behind a (with_fixed places k x z) w
-            (goes_var k x (Fixed z (next_cells k false false 1)) (unchanging x z None) w.lawful
-            (i, next-fits ks es k (unchanging x z None) false false 1 refl (omega arith)) tt))
+        (goes_var k x (Fixed z (next_cells k false false 1)) (unchanging x z None) w.lawful
+        (i, next-fits ks es k (unchanging x z None) false false 1 refl (omega arith)) tt))
 
     cleared : (a : Walked) (x : List ℕ) (is_array : Bool) (n : ℕ) → Walks ks es a → 0 < n
         → WalksOn ks es a.declared (does (Do (Clear (length a.declared.vars))) (behind a (with_changing places a.declared x is_array n)))

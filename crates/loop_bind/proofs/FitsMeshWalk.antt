@@ -150,7 +150,7 @@ module _ (ks : List RKernel) (es : List Named) where
         let s = size_found places k t e in
         let po : p ++ o ≡ [] = left_nil (p ++ o) s none in
         set-goes k x.name (size_of places (value [] [] (resolved places k.names e)))
-            (k.filled + size_of places (value [] [] (resolved places k.names e))) h (no_site_yet places k nested t (left_nil p o po))
+        (k.filled + size_of places (value [] [] (resolved places k.names e))) h (no_site_yet places k nested t (left_nil p o po))
         (not_over InOrder max_sets (suc (set_count k.mesh)) t counted.Sets (right_nil p o po))
         (set_size_below places k t e (right_nil (p ++ o) s none)))
 
@@ -180,7 +180,7 @@ module _ (ks : List RKernel) (es : List Named) where
           let m2 : a ++ b ≡ [] = left_nil (a ++ b) d m3 in
           let dims = dim_fits places n (right_nil (a ++ b) d m3) in
           map-goes k x.name (or_zero (set_of (means k.names from.name))) (or_zero (set_of (means k.names to.name))) (count_of n)
-              (k.filled + length (or_none vs)) (or_none vs) h (no_site_yet places k nested t (left_nil p o po))
+          (k.filled + length (or_none vs)) (or_none vs) h (no_site_yet places k nested t (left_nil p o po))
           (not_over InOrder max_maps (suc (map_count k.mesh)) t counted.Maps (right_nil p o po)) dims.1
           (map_is places k.mesh v x.name (set_of (means k.names from.name)) (set_of (means k.names to.name)) (count_of n) vs (set_there from) (set_there to)
           (set_known from (left_nil a b m2)) (set_known to (right_nil a b m2)) dims.0 dims.1 (right_nil (a ++ b ++ d) f m4) (right_nil (a ++ b ++ d ++ f) g m5)))

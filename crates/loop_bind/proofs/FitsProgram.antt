@@ -85,10 +85,10 @@ module _ (named_names : NamedNamesAreAll) (p : ProgramTree) (r : Resolved) (es :
   text_unhidden : Gives (λ (w : Walked). AllNameNoOwn [] p.main.body) (text p r es)
   text_unhidden =
       gives_then (λ k. FileConsts cs fs k × Scoped (after_tops [] p.tops) [] k) (λ (w : Walked). AllNameNoOwn [] p.main.body)
-          (judged_tops p.places cs es nothing_declared p.tops) (λ k. judged_hosts p.places cs es (quiet k) outermost p.main.body)
+      (judged_tops p.places cs es nothing_declared p.tops) (λ k. judged_hosts p.places cs es (quiet k) outermost p.main.body)
       (both (FileConsts cs fs) (Scoped (after_tops [] p.tops) []) (judged_tops p.places cs es nothing_declared p.tops)
-          (tops_are_consts cs p.places es [] nothing_declared p.tops no_file)
-          (tops_scoped p.places cs es [] [] nothing_declared p.tops no_names))
+      (tops_are_consts cs p.places es [] nothing_declared p.tops no_file)
+      (tops_scoped p.places cs es [] [] nothing_declared p.tops no_names))
       (λ k i. hosts_unhidden cs fs h.apart p.places es (after_tops [] p.tops) [] [] (quiet k) outermost p.main.body (begins k i.0) i.1)
 
   -- ---- the whole
@@ -116,7 +116,7 @@ module _ (named_names : NamedNamesAreAll) (p : ProgramTree) (r : Resolved) (es :
   whole_fits : (w : Walked) → Whole w → Gives Fits (unrolled_text r w)
   whole_fits w i =
       gives_then (λ u. Unrolls (so_far r.kernels.items w.declared) None max_trace u × Last u) Fits (trace w.declared.mesh (happens w))
-          (λ u. Ok (finished r w.declared u)) (walk_unrolls p r es w i.walks)
+      (λ u. Ok (finished r w.declared u)) (walk_unrolls p r es w i.walks)
       (λ u j. fits_are (finished r w.declared u) refl (finished_fits p r es w.declared u i.walks.lawful j.0 j.1)
       (match_told u.values w.declared.vars cs (all_one (so_far r.kernels.items w.declared) u.values j.0.values)
       (tagged_match cs done fs w.declared.vars cs i.constants.tagged (are_same (named_in p) done (named_names p i.unhidden) fs cs h.constants) h.found)))

@@ -67,18 +67,18 @@ module _ (places : List Pos) (cs : List ConstDecl) (es : List Named) where
       (m.Variable (next_cells k true false 1)) tt (var file own k (changing x.name (pos 0 ∷ [])) h)
   file_declr_scoped file own k c (tree.Init x e) h =
       gives_then (λ z. Unit {0}) (Scoped (knows x.name (not c) file) own) (judged_value places k.names e)
-          (λ z. Ok (with_file_value places cs k c x.name z)) (gives_any (judged_value places k.names e))
-          (λ z u. value_scoped file own k c x.name z h)
+      (λ z. Ok (with_file_value places cs k c x.name z)) (gives_any (judged_value places k.names e))
+      (λ z u. value_scoped file own k c x.name z h)
   file_declr_scoped file own k c (tree.Array x n) h =
       file_name file own (with_var (changing x.name (replicate (count_of n) (pos 0))) k) x.name true
-          (m.Variable (next_cells k true true (count_of n))) tt (var file own k (changing x.name (replicate (count_of n) (pos 0))) h)
+      (m.Variable (next_cells k true true (count_of n))) tt (var file own k (changing x.name (replicate (count_of n) (pos 0))) h)
 
   file_declrs_scoped : (file own : Known) (k : Declared) (c : Bool) (ds : List DeclrTree) → Scoped file own k → Gives (Scoped (after_declrs file c ds) own) (judged_file_declrs places cs k c ds)
   file_declrs_scoped file own k c [] h = h
   file_declrs_scoped file own k c (d ∷ ds) h =
       gives_then (Scoped (after_declr file c d) own) (Scoped (after_declrs (after_declr file c d) c ds) own)
-          (judged_file_declr places cs k c d) (λ l. judged_file_declrs places cs l c ds) (file_declr_scoped file own k c d h)
-          (λ l i. file_declrs_scoped (after_declr file c d) own l c ds i)
+      (judged_file_declr places cs k c d) (λ l. judged_file_declrs places cs l c ds) (file_declr_scoped file own k c d h)
+      (λ l i. file_declrs_scoped (after_declr file c d) own l c ds i)
 
   extern_scoped : (file own : Known) (k : Declared) (x : Ident) (e : Option Entry) → Scoped file own k → Gives (Scoped (knows x.name false file) own) (judged_extern places cs es k x e)
   extern_scoped file own k x (Some (One z)) h = file_name file own k x.name false (m.Extern z) tt h
@@ -115,19 +115,19 @@ module _ (places : List Pos) (cs : List ConstDecl) (es : List Named) where
     const_scoped : (own : Known) (in_for is_nested : Bool) (a : Walked) (x : List ℕ) (e : ExprTree) → At own a → Gives (At (knows x false own)) (const_at places in_for is_nested a x e)
     const_scoped own true is_nested a x e h =
         gives_then (λ (v : Asked). Unit {0}) (At (knows x false own)) (judged_static places a.declared.names e)
-            (λ v. Ok (does (Fix v None) (behind a (with_turning places a.declared x))))
-            (gives_any (judged_static places a.declared.names e))
+        (λ v. Ok (does (Fix v None) (behind a (with_turning places a.declared x))))
+        (gives_any (judged_static places a.declared.names e))
         (λ v u. own_name file own a.declared x false (m.Turning (told_later a.declared.names)) tt h)
     const_scoped own false true a x e h =
         gives_then (λ (v : Asked). Unit {0}) (At (knows x false own)) (judged_static places a.declared.names e)
-            (λ v. Ok (does (Fix v (Some (length a.declared.vars))) (behind a (with_fixed_later places a.declared x))))
-            (gives_any (judged_static places a.declared.names e))
+        (λ v. Ok (does (Fix v (Some (length a.declared.vars))) (behind a (with_fixed_later places a.declared x))))
+        (gives_any (judged_static places a.declared.names e))
         (λ v u. own_name file own (with_var (unchanging x (pos 0) None) a.declared) x false
-            (m.FixedLater (told_later a.declared.names) (next_cells a.declared false false 1)) tt
-            (var file own a.declared (unchanging x (pos 0) None) h))
+        (m.FixedLater (told_later a.declared.names) (next_cells a.declared false false 1)) tt
+        (var file own a.declared (unchanging x (pos 0) None) h))
     const_scoped own false false a x e h =
         gives_then (λ (z : ℤ). Unit {0}) (At (knows x false own)) (judged_value places a.declared.names e)
-            (λ z. Ok (behind a (with_fixed places a.declared x z))) (gives_any (judged_value places a.declared.names e))
+        (λ z. Ok (behind a (with_fixed places a.declared x z))) (gives_any (judged_value places a.declared.names e))
         (λ z u. own_name file own (with_var (unchanging x z None) a.declared) x false (m.Fixed z (next_cells a.declared false false 1)) tt (var file own a.declared (unchanging x z None) h))
 
     declr_scoped : (own : Known) (a : Walked) (w : Spot) (c : Bool) (d : DeclrTree) → At own a → Gives (At (after_declr own c d)) (judged_declr places a w c d)
@@ -151,8 +151,11 @@ module _ (places : List Pos) (cs : List ConstDecl) (es : List Named) where
 
     thing_scoped : (own : Known) (k l : Declared) (x : List ℕ) (o : Meaning) → l.names ≡ declare x o k.names → Scoped file own k → Scoped file (knows x false own) l
     thing_scoped own k l x o e h = let i = own_name file own k x false o tt h in
-        record { file = subst (λ (s : Scope). Same file s.file) (sym e) i.file; own =
-        subst (λ (s : Scope). Same (knows x false own) s.own) (sym e) i.own }
+        record {
+          file = subst (λ (s : Scope). Same file s.file) (sym e) i.file;
+          own =
+              subst (λ (s : Scope). Same (knows x false own) s.own) (sym e) i.own;
+        }
 
     extern_names : (k : Declared) (x : List ℕ) (zs : List ℤ) → (with_extern x zs k).names ≡ k.names
     extern_names k x zs = pick (is_some (lookup (bytes_eq x) k.externs))
@@ -196,35 +199,35 @@ module _ (places : List Pos) (cs : List ConstDecl) (es : List Named) where
     call_scoped own a w (tree.DeclSet at x e l) h =
         declares_scoped (knows x.name false own) a (judged_set places a.declared w.is_nested at x e)
         (gives_unless (Scoped file (knows x.name false own)) (set_decl_found places a.declared w.is_nested at e) _
-            (λ none. thing_scoped own a.declared _ x.name (m.Set (set_count a.declared.mesh)) refl h))
+        (λ none. thing_scoped own a.declared _ x.name (m.Set (set_count a.declared.mesh)) refl h))
     call_scoped own a w (tree.DeclMap at x from to n v l) h =
         declares_scoped (knows x.name false own) a (judged_map places es a.declared w.is_nested at x from to n v)
         (gives_unless (Scoped file (knows x.name false own)) (map_decl_found places es a.declared w.is_nested at from to n v) _
-            (λ none. thing_scoped own a.declared _ x.name (m.Map (map_count a.declared.mesh)) refl h))
+        (λ none. thing_scoped own a.declared _ x.name (m.Map (map_count a.declared.mesh)) refl h))
     call_scoped own a w (tree.DeclDat at x on n u v l) h =
         declares_scoped (knows x.name false own) a (judged_dat places es a.declared w.is_nested at x on n u v)
         (gives_unless (Scoped file (knows x.name false own)) (dat_decl_found places es a.declared w.is_nested at on n u v) _
-            (λ none. thing_scoped own a.declared _ x.name (m.Dat (dat_count a.declared.mesh)) refl h))
+        (λ none. thing_scoped own a.declared _ x.name (m.Dat (dat_count a.declared.mesh)) refl h))
     call_scoped own a w (tree.DeclConst at n u g) h =
         declares_scoped own a (judged_constant places cs a.declared w.is_nested at n u g)
         (gives_unless (Scoped file own) (constant_decl_found places a.declared w.is_nested at n u g)
-            (after_constant places cs a.declared g.name.name (file_cells places (means a.declared.names g.name.name)))
+        (after_constant places cs a.declared g.name.name (file_cells places (means a.declared.names g.name.name)))
         (λ none. alike file own a.declared
-            (after_constant places cs a.declared g.name.name (file_cells places (means a.declared.names g.name.name)))
-            (constant_names_kept a.declared g.name.name (file_cells places (means a.declared.names g.name.name))) h))
+        (after_constant places cs a.declared g.name.name (file_cells places (means a.declared.names g.name.name)))
+        (constant_names_kept a.declared g.name.name (file_cells places (means a.declared.names g.name.name))) h))
     call_scoped own a w (tree.ParLoop at f l on args) h =
         let j = after_globals es args a.declared in
         gives_then (Scoped file own) (At own) (judged_loop places es a.declared at f on args) (λ k. Ok (does (Loop (length a.declared.sites)) (behind a k)))
         (gives_unless (Scoped file own) (loop_found places es j at f on args)
-            (record j { sites = j.sites ++ site places es j at f on args ∷ [] })
-            (λ none. alike file own a.declared (record j { sites = j.sites ++ site places es j at f on args ∷ [] })
-            (globals_names a.declared args) h))
+        (record j { sites = j.sites ++ site places es j at f on args ∷ [] })
+        (λ none. alike file own a.declared (record j { sites = j.sites ++ site places es j at f on args ∷ [] })
+        (globals_names a.declared args) h))
         (λ k i. i)
     call_scoped own a w (tree.Printf at l xs) h = gives_unless (At own) (line_found places cs es at l (length xs) (conversions l.text))
         (does (Do (Line l.text (map (resolved places a.declared.names) xs))) a) (λ none. h)
     call_scoped own a w (tree.PrintDat at x l) h =
         gives_unless (At own) (found_if places (is_none (dat_of (means a.declared.names x.name))) x.at refusal.UnknownDat)
-            (does (Do (Print (or_zero (dat_of (means a.declared.names x.name))) l.text)) a) (λ none. h)
+        (does (Do (Print (or_zero (dat_of (means a.declared.names x.name))) l.text)) a) (λ none. h)
 
     -- ---- statements
 
@@ -242,24 +245,24 @@ module _ (places : List Pos) (cs : List ConstDecl) (es : List Named) where
       host_scoped own a w (tree.HostDeclaration v) h = declrs_scoped own a w v.is_const v.declrs h
       host_scoped own a w (tree.HostBlock at hs) h =
           gives_then (At (after_hosts own hs)) (At (take (length own) (after_hosts own hs)))
-              (judged_hosts places cs es (opened places cs es a) (nested w) hs) (λ b. Ok (ended places cs es a (Block b.steps) b))
-              (hosts_scoped own (opened places cs es a) (nested w) hs h)
+          (judged_hosts places cs es (opened places cs es a) (nested w) hs) (λ b. Ok (ended places cs es a (Block b.steps) b))
+          (hosts_scoped own (opened places cs es a) (nested w) hs h)
           (λ b i. closed_scoped own (after_hosts own hs) a.declared b.declared h i)
       host_scoped own a w (tree.HostEmpty at) h = h
       host_scoped own a w (tree.HostAssign e) h = h
       host_scoped own a w (tree.HostIf at e x) h =
           gives_then (λ (c : Asked). Unit {0}) (At (after_host own x)) (judged_static places a.declared.names e)
-              (λ c. judged_host places cs es (opened places cs es a) (nested w) x >>= λ b. Ok
-              (followed_by places cs es a (Choose c (Block b.steps) (Block NoStep)) b))
-              (gives_any (judged_static places a.declared.names e))
+          (λ c. judged_host places cs es (opened places cs es a) (nested w) x >>= λ b. Ok
+          (followed_by places cs es a (Choose c (Block b.steps) (Block NoStep)) b))
+          (gives_any (judged_static places a.declared.names e))
           (λ c u. gives_then (At (after_host own x)) (At (after_host own x)) (judged_host places cs es (opened places cs es a) (nested w) x)
-              (λ b. Ok (followed_by places cs es a (Choose c (Block b.steps) (Block NoStep)) b))
-              (host_scoped own (opened places cs es a) (nested w) x h) (λ b i. i))
+          (λ b. Ok (followed_by places cs es a (Choose c (Block b.steps) (Block NoStep)) b))
+          (host_scoped own (opened places cs es a) (nested w) x h) (λ b i. i))
       host_scoped own a w (tree.HostIfElse at e x y) h =
           let o = after_host own x in
           gives_then (λ (c : Asked). Unit {0}) (At (after_host (after_host own x) y)) (judged_static places a.declared.names e)
           (λ c. judged_host places cs es (opened places cs es a) (nested w) x >>= λ b. judged_host places cs es (opened places cs es b)
-              (nested w) y >>= λ d. Ok (followed_by places cs es a (Choose c (Block b.steps) (Block d.steps)) d))
+          (nested w) y >>= λ d. Ok (followed_by places cs es a (Choose c (Block b.steps) (Block d.steps)) d))
           (gives_any (judged_static places a.declared.names e))
           (λ c u. gives_then (At (after_host own x)) (At (after_host (after_host own x) y)) (judged_host places cs es (opened places cs es a) (nested w) x)
           (λ b. judged_host places cs es (opened places cs es b) (nested w) y >>= λ d. Ok (followed_by places cs es a (Choose c (Block b.steps) (Block d.steps)) d))
@@ -268,13 +271,13 @@ module _ (places : List Pos) (cs : List ConstDecl) (es : List Named) where
           (λ d. Ok (followed_by places cs es a (Choose c (Block b.steps) (Block d.steps)) d)) (host_scoped (after_host own x) (opened places cs es b) (nested w) y i) (λ d j. j)))
       host_scoped own a w (tree.HostFor f x) h =
           gives_then (λ (r : Asked × Asked). Unit {0}) (At (take (length own) (after_host (knows f.name.name false own) x)))
-              (judged_bounds places cs es a f)
-              (λ r. judged_host places cs es (with_counter places cs es a f.name) turning x >>= λ b. Ok
-              (ended places cs es a (Repeat r.0 r.1 (Block b.steps)) b)) (gives_any (judged_bounds places cs es a f))
+          (judged_bounds places cs es a f)
+          (λ r. judged_host places cs es (with_counter places cs es a f.name) turning x >>= λ b. Ok
+          (ended places cs es a (Repeat r.0 r.1 (Block b.steps)) b)) (gives_any (judged_bounds places cs es a f))
           (λ r u. gives_then (At (after_host (knows f.name.name false own) x))
-              (At (take (length own) (after_host (knows f.name.name false own) x)))
-              (judged_host places cs es (with_counter places cs es a f.name) turning x)
-              (λ b. Ok (ended places cs es a (Repeat r.0 r.1 (Block b.steps)) b))
+          (At (take (length own) (after_host (knows f.name.name false own) x)))
+          (judged_host places cs es (with_counter places cs es a f.name) turning x)
+          (λ b. Ok (ended places cs es a (Repeat r.0 r.1 (Block b.steps)) b))
           (host_scoped (knows f.name.name false own) (with_counter places cs es a f.name) turning x (counter_scoped own a f.name h))
           (λ b i. closed_scoped own (after_host (knows f.name.name false own) x) a.declared b.declared h i))
       host_scoped own a w (tree.HostCall c) h = call_scoped own a w c h
@@ -283,7 +286,7 @@ module _ (places : List Pos) (cs : List ConstDecl) (es : List Named) where
       hosts_scoped own a w tree.NoHost h = h
       hosts_scoped own a w (tree.MoreHost x xs) h =
           gives_then (At (after_host own x)) (At (after_hosts (after_host own x) xs)) (judged_host places cs es a w x)
-              (λ b. judged_hosts places cs es b w xs) (host_scoped own a w x h) (λ b i. hosts_scoped (after_host own x) b w xs i)
+          (λ b. judged_hosts places cs es b w xs) (host_scoped own a w x h) (λ b i. hosts_scoped (after_host own x) b w xs i)
 
     -- ---- what is assigned
 

@@ -34,8 +34,8 @@ more_same f x done d = ap (λ b. f.is_const || b) (list_any-append (bytes_eq f.n
 more_here : (f : FileVariable) (x : List ℕ) (done : List (List ℕ)) → f.name ≡ x → is_constant (done ++ x ∷ []) f ≡ true
 more_here f x done e =
     ap (λ b. f.is_const || b) (list_any-append (bytes_eq f.name) done (x ∷ [])
-        ∙ ap (λ b. list_any (bytes_eq f.name) done || (b || false)) ((bytes_eq-Decides f.name x).1 e)
-        ∙ or_true (list_any (bytes_eq f.name) done))
+    ∙ ap (λ b. list_any (bytes_eq f.name) done || (b || false)) ((bytes_eq-Decides f.name x).1 e)
+    ∙ or_true (list_any (bytes_eq f.name) done))
     ∙ or_true f.is_const
 
 -- ---- the file's variables and the program's

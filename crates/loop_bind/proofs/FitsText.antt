@@ -128,7 +128,7 @@ module _ (ks : List RKernel) (es : List Named) where
         (constant_is_lawful ks es places consts a.declared w.is_nested at n u g h.lawful)
     call_is a w (tree.ParLoop at f l on args) h r =
         gives_then (Loops ks es a.declared) (WalksOn ks es a.declared) (judged_loop places es a.declared at f on args)
-            (λ k. Ok (does (Loop (length a.declared.sites)) (behind a k))) (loop_is_lawful ks es places a.declared at f on args h.lawful)
+        (λ k. Ok (does (Loop (length a.declared.sites)) (behind a k))) (loop_is_lawful ks es places a.declared at f on args h.lawful)
         (λ k i. walks_does ks es a k (Loop (length a.declared.sites)) h i.goes i.more)
     call_is a w (tree.Printf at l xs) h r =
         gives_unless (WalksOn ks es a.declared) (line_found places consts es at l (length xs) (conversions l.text)) (does (Do (Line l.text (map (resolved places a.declared.names) xs))) a)
@@ -139,8 +139,8 @@ module _ (ks : List RKernel) (es : List Named) where
         gives_unless (WalksOn ks es a.declared) (found_if places (is_none d) x.at refusal.UnknownDat) (does (Do (Print (or_zero d) l.text)) a)
         (λ none. walks_step ks es a (Do (Print (or_zero d) l.text)) h
         (known_below (dat_count a.declared.mesh) d
-            (dat_below ks a.declared.mesh a.declared.vars a.declared.cells (means a.declared.names x.name)
-            (means_fits ks es a.declared h.lawful x.name)) (not_if places (is_none d) x.at refusal.UnknownDat none)))
+        (dat_below ks a.declared.mesh a.declared.vars a.declared.cells (means a.declared.names x.name)
+        (means_fits ks es a.declared h.lawful x.name)) (not_if places (is_none d) x.at refusal.UnknownDat none)))
 
     -- ---- statements
 
@@ -164,11 +164,11 @@ module _ (ks : List RKernel) (es : List Named) where
     bounds_are : (a : Walked) (f : HostForHeaderTree) → Walks ks es a → HasNumbers f.from → HasNumbers f.to → Gives (Bounds a.declared.cells) (judged_bounds places consts es a f)
     bounds_are a f h p q =
         gives_then (λ (c : Asked). Within a.declared.cells c.value) (Bounds a.declared.cells) (judged_static places a.declared.names f.from)
-            (λ from. judged_static places (with_counter places consts es a f.name).declared.names f.to >>= λ to. Ok (from, to))
-            (static_within ks es places a.declared h.lawful f.from p)
+        (λ from. judged_static places (with_counter places consts es a f.name).declared.names f.to >>= λ to. Ok (from, to))
+        (static_within ks es places a.declared h.lawful f.from p)
         (λ from i. gives_then (λ (c : Asked). Within a.declared.cells c.value) (Bounds a.declared.cells)
-            (judged_static places (with_counter places consts es a f.name).declared.names f.to) (λ to. Ok (from, to))
-            (static_within ks es places (with_counter places consts es a f.name).declared (counter_walks a f.name h).lawful f.to q)
+        (judged_static places (with_counter places consts es a f.name).declared.names f.to) (λ to. Ok (from, to))
+        (static_within ks es places (with_counter places consts es a f.name).declared (counter_walks a f.name h).lawful f.to q)
         (λ to j. record { from = i; to = j }))
 
     -- the two parts of a sequence
@@ -190,9 +190,9 @@ module _ (ks : List RKernel) (es : List Named) where
       host_is a w (tree.HostDeclaration v) h r t = declrs_are ks es places a w v.is_const v.declrs h r
       host_is a w (tree.HostBlock at hs) h r t =
           gives_then (WalksOn ks es a.declared) (WalksOn ks es a.declared)
-              (judged_hosts places consts es (opened places consts es a) (nested w) hs)
-              (λ b. Ok (ended places consts es a (Block b.steps) b))
-              (hosts_are (opened places consts es a) (nested w) hs (opened_walks a h.lawful) r t)
+          (judged_hosts places consts es (opened places consts es a) (nested w) hs)
+          (λ b. Ok (ended places consts es a (Block b.steps) b))
+          (hosts_are (opened places consts es a) (nested w) hs (opened_walks a h.lawful) r t)
           (λ b i. block a b (Block b.steps) h i i.walks.steps)
       host_is a w (tree.HostEmpty at) h r t = walks_self ks es a h
       host_is a w (tree.HostAssign e) h r t =
@@ -200,49 +200,53 @@ module _ (ks : List RKernel) (es : List Named) where
           (target_is a.declared h.lawful e.place t, index_is a.declared h.lawful e.place r.0, resolved_within ks es places a.declared h.lawful e.value r.1)
       host_is a w (tree.HostIf at e x) h r t =
           gives_then (λ (c : Asked). Within a.declared.cells c.value) (WalksOn ks es a.declared) (judged_static places a.declared.names e)
-              (λ c. judged_host places consts es (opened places consts es a) (nested w) x >>= λ b. Ok
-              (followed_by places consts es a (Choose c (Block b.steps) (Block NoStep)) b))
-              (static_within ks es places a.declared h.lawful e r.0)
+          (λ c. judged_host places consts es (opened places consts es a) (nested w) x >>= λ b. Ok
+          (followed_by places consts es a (Choose c (Block b.steps) (Block NoStep)) b))
+          (static_within ks es places a.declared h.lawful e r.0)
           (λ c i. gives_then (WalksOn ks es a.declared) (WalksOn ks es a.declared)
-              (judged_host places consts es (opened places consts es a) (nested w) x)
-              (λ b. Ok (followed_by places consts es a (Choose c (Block b.steps) (Block NoStep)) b))
-              (host_is (opened places consts es a) (nested w) x (opened_walks a h.lawful) r.1 t)
+          (judged_host places consts es (opened places consts es a) (nested w) x)
+          (λ b. Ok (followed_by places consts es a (Choose c (Block b.steps) (Block NoStep)) b))
+          (host_is (opened places consts es a) (nested w) x (opened_walks a h.lawful) r.1 t)
           (λ b j. part a b (Choose c (Block b.steps) (Block NoStep)) h j (within_more a.declared.cells b.declared.cells j.grows.cells c.value i, j.walks.steps, tt)))
       host_is a w (tree.HostIfElse at e x y) h r t =
           let k = a.declared in
           gives_then (λ (c : Asked). Within k.cells c.value) (WalksOn ks es k) (judged_static places k.names e)
           (λ c. judged_host places consts es (opened places consts es a) (nested w) x >>= λ b. judged_host places consts es
-              (opened places consts es b) (nested w) y >>= λ d. Ok
-              (followed_by places consts es a (Choose c (Block b.steps) (Block d.steps)) d))
+          (opened places consts es b) (nested w) y >>= λ d. Ok
+          (followed_by places consts es a (Choose c (Block b.steps) (Block d.steps)) d))
           (static_within ks es places k h.lawful e r.0)
           (λ c i. gives_then (Both (WalksOn ks es k) (λ b. AssignsVariables places consts es (opened places consts es b) (nested w) y))
-              (WalksOn ks es k) (judged_host places consts es (opened places consts es a) (nested w) x)
+          (WalksOn ks es k) (judged_host places consts es (opened places consts es a) (nested w) x)
           (λ b. judged_host places consts es (opened places consts es b) (nested w) y >>= λ d. Ok (followed_by places consts es a (Choose c (Block b.steps) (Block d.steps)) d))
           (both (WalksOn ks es k) (λ b. AssignsVariables places consts es (opened places consts es b) (nested w) y)
-              (judged_host places consts es (opened places consts es a) (nested w) x)
-              (host_is (opened places consts es a) (nested w) x (opened_walks a h.lawful) r.1 t.0) t.1)
+          (judged_host places consts es (opened places consts es a) (nested w) x)
+          (host_is (opened places consts es a) (nested w) x (opened_walks a h.lawful) r.1 t.0) t.1)
           (λ b j. gives_then (WalksOn ks es b.declared) (WalksOn ks es k)
-              (judged_host places consts es (opened places consts es b) (nested w) y)
-              (λ d. Ok (followed_by places consts es a (Choose c (Block b.steps) (Block d.steps)) d))
+          (judged_host places consts es (opened places consts es b) (nested w) y)
+          (λ d. Ok (followed_by places consts es a (Choose c (Block b.steps) (Block d.steps)) d))
           (host_is (opened places consts es b) (nested w) y (opened_walks b j.gives.walks.lawful) r.2 j.also)
           (λ d l. let o = walks_trans ks es k b.declared d j.gives.grows j.gives.file l in
-          part a d (Choose c (Block b.steps) (Block d.steps)) h o
-              (within_more k.cells d.declared.cells o.grows.cells c.value i,
-              steps_more b.declared d.declared l.grows b.steps j.gives.walks.steps, l.walks.steps))))
+          part a d (Choose c (Block b.steps) (Block d.steps)) h o (
+            within_more k.cells d.declared.cells o.grows.cells c.value i,
+            steps_more b.declared d.declared l.grows b.steps j.gives.walks.steps,
+            l.walks.steps,
+          ))))
       host_is a w (tree.HostFor f x) h r t =
           let k = a.declared in
           gives_then (Bounds k.cells) (WalksOn ks es k) (judged_bounds places consts es a f)
-              (λ r. judged_host places consts es (with_counter places consts es a f.name) turning x >>= λ b. Ok
-              (ended places consts es a (Repeat r.0 r.1 (Block b.steps)) b)) (bounds_are a f h r.0 r.1)
+          (λ r. judged_host places consts es (with_counter places consts es a f.name) turning x >>= λ b. Ok
+          (ended places consts es a (Repeat r.0 r.1 (Block b.steps)) b)) (bounds_are a f h r.0 r.1)
           (λ c i. gives_then (WalksOn ks es k) (WalksOn ks es k)
-              (judged_host places consts es (with_counter places consts es a f.name) turning x)
-              (λ b. Ok (ended places consts es a (Repeat c.0 c.1 (Block b.steps)) b))
+          (judged_host places consts es (with_counter places consts es a f.name) turning x)
+          (λ b. Ok (ended places consts es a (Repeat c.0 c.1 (Block b.steps)) b))
           (moved k (with_counter places consts es a f.name).declared
-              (judged_host places consts es (with_counter places consts es a f.name) turning x) (counter_goes a f.name h).grows refl
-              (host_is (with_counter places consts es a f.name) turning x (counter_walks a f.name h) r.2 t))
-          (λ b j. block a b (Repeat c.0 c.1 (Block b.steps)) h j
-              (within_more k.cells b.declared.cells j.grows.cells c.0.value i.from,
-              within_more k.cells b.declared.cells j.grows.cells c.1.value i.to, j.walks.steps)))
+          (judged_host places consts es (with_counter places consts es a f.name) turning x) (counter_goes a f.name h).grows refl
+          (host_is (with_counter places consts es a f.name) turning x (counter_walks a f.name h) r.2 t))
+          (λ b j. block a b (Repeat c.0 c.1 (Block b.steps)) h j (
+            within_more k.cells b.declared.cells j.grows.cells c.0.value i.from,
+            within_more k.cells b.declared.cells j.grows.cells c.1.value i.to,
+            j.walks.steps,
+          )))
       host_is a w (tree.HostCall c) h r t = call_is a w c h r
 
       pub hosts_are : (a : Walked) (w : Spot) (xs : HostTrees) → Walks ks es a → HostsAreRead xs

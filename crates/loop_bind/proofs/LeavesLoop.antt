@@ -154,7 +154,7 @@ module _ (es : List Named) (places : List Pos) (k : Declared) (h : Leaves k) whe
       let f1 = arg_found places es k set before x in
       let f2 = args_found places es k set (with_earlier places es k x before) xs in
       All-cons (ArgIsFree k.vars) (arg_of places es k x) (map (arg_of places es k) xs) (arg-free set before x (left_nil f1 f2 e))
-          (args-free set (with_earlier places es k x before) xs (right_nil f1 f2 e))
+      (args-free set (with_earlier places es k x before) xs (right_nil f1 f2 e))
 
   site-free : (t : ℕ) (f on : Ident) (args : List LoopArg) → loop_found places es k t f on args ≡ [] → SiteIsFree k.vars (site places es k t f on args)
   site-free t f on args e =

@@ -91,7 +91,7 @@ module _ (places : List Pos) (cs : List ConstDecl) (es : List Named) where
   file-declr k c (tree.Plain x) h = file-changing k x.name false 1 (pos 0 ∷ []) h
   file-declr k c (tree.Init x e) h =
       gives_then (λ z. Unit {0}) (LeavesOn k) (judged_value places k.names e) (λ z. Ok (with_file_value places cs k c x.name z))
-          (gives_any (judged_value places k.names e)) (λ z u. value-on k c x.name z h)
+      (gives_any (judged_value places k.names e)) (λ z u. value-on k c x.name z h)
   file-declr k c (tree.Array x n) h = file-changing k x.name true (count_of n) (replicate (count_of n) (pos 0)) h
 
   file-declrs : (k : Declared) (c : Bool) (ds : List DeclrTree) → Leaves k → Gives (LeavesOn k) (judged_file_declrs places cs k c ds)
@@ -136,15 +136,15 @@ module _ (places : List Pos) where
   const-on : (in_for is_nested : Bool) (a : Walked) (x : List ℕ) (e : ExprTree) → WalkLeaves a → Gives (WalkOn a.declared) (const_at places in_for is_nested a x e)
   const-on true is_nested a x e w =
       gives_then (λ (v : Asked). Unit {0}) (WalkOn a.declared) (judged_static places a.declared.names e)
-          (λ v. Ok (does (Fix v None) (behind a (with_turning places a.declared x)))) (gives_any (judged_static places a.declared.names e))
+      (λ v. Ok (does (Fix v None) (behind a (with_turning places a.declared x)))) (gives_any (judged_static places a.declared.names e))
       (λ v i. walk-does a (with_turning places a.declared x) (Fix v None) w (on-name a.declared x (m.Turning (told_later a.declared.names)) w.declared tt) tt)
   const-on false true a x e w =
       let k = a.declared in
       gives_then (λ (v : Asked). Unit {0}) (WalkOn k) (judged_static places k.names e)
-          (λ v. Ok (does (Fix v (Some (length k.vars))) (behind a (with_fixed_later places k x))))
-          (gives_any (judged_static places k.names e))
+      (λ v. Ok (does (Fix v (Some (length k.vars))) (behind a (with_fixed_later places k x))))
+      (gives_any (judged_static places k.names e))
       (λ v i. walk-does a (with_fixed_later places k x) (Fix v (Some (length k.vars))) w
-          (on-var k x (m.FixedLater (told_later k.names) (next_cells k false false 1)) (unchanging x (pos 0) None) w.declared tt) tt)
+      (on-var k x (m.FixedLater (told_later k.names) (next_cells k false false 1)) (unchanging x (pos 0) None) w.declared tt) tt)
   const-on false false a x e w =
       let k = a.declared in
       gives_then (λ (z : ℤ). Unit {0}) (WalkOn k) (judged_value places k.names e) (λ z. Ok (behind a (with_fixed places k x z))) (gives_any (judged_value places k.names e))

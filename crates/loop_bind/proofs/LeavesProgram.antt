@@ -42,10 +42,10 @@ module _ (p : ProgramTree) (r : Resolved) (es : List Named) (h : IsResolvedSourc
   text-leaves : Gives WalkLeaves (text p r es)
   text-leaves =
       gives_then (λ k. LeavesOn nothing_declared k × Scoped (after_tops [] p.tops) [] k) WalkLeaves
-          (judged_tops p.places cs es nothing_declared p.tops) (λ k. judged_hosts p.places cs es (quiet k) outermost p.main.body)
+      (judged_tops p.places cs es nothing_declared p.tops) (λ k. judged_hosts p.places cs es (quiet k) outermost p.main.body)
       (both (LeavesOn nothing_declared) (Scoped (after_tops [] p.tops) []) (judged_tops p.places cs es nothing_declared p.tops)
-          (tops-on p.places cs es nothing_declared p.tops nothing-leaves)
-          (tops_scoped p.places cs es [] [] nothing_declared p.tops no-names))
+      (tops-on p.places cs es nothing_declared p.tops nothing-leaves)
+      (tops_scoped p.places cs es [] [] nothing_declared p.tops no-names))
       (λ k i. moved k (judged_hosts p.places cs es (quiet k) outermost p.main.body)
       (hosts-on p.places cs es (quiet k) outermost p.main.body (record { declared = i.0.leaves; steps = tt })
       (hosts_assign p.places cs es (after_tops [] p.tops) [] (quiet k) outermost p.main.body i.1 h.assigns)))

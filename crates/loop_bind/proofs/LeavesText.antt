@@ -78,35 +78,44 @@ module _ (places : List Pos) (cs : List ConstDecl) (es : List Named) where
       declares-on a (judged_set places a.declared w.is_nested at x e) h
       (gives_unless (LeavesOn a.declared) (set_decl_found places a.declared w.is_nested at e) _
       (λ none. let i = on-name a.declared x.name (m.Set (set_count a.declared.mesh)) h.declared tt in
-          record { leaves = record { file = i.leaves.file; own = i.leaves.own; sites = i.leaves.sites }; stay =
-          stay-self a.declared.vars }))
+      record {
+        leaves = record { file = i.leaves.file; own = i.leaves.own; sites = i.leaves.sites };
+        stay =
+            stay-self a.declared.vars;
+      }))
   call-on a w (tree.DeclMap at x from to n v l) h =
       declares-on a (judged_map places es a.declared w.is_nested at x from to n v) h
       (gives_unless (LeavesOn a.declared) (map_decl_found places es a.declared w.is_nested at from to n v) _
       (λ none. let i = on-name a.declared x.name (m.Map (map_count a.declared.mesh)) h.declared tt in
-          record { leaves = record { file = i.leaves.file; own = i.leaves.own; sites = i.leaves.sites }; stay =
-          stay-self a.declared.vars }))
+      record {
+        leaves = record { file = i.leaves.file; own = i.leaves.own; sites = i.leaves.sites };
+        stay =
+            stay-self a.declared.vars;
+      }))
   call-on a w (tree.DeclDat at x on n u v l) h =
       declares-on a (judged_dat places es a.declared w.is_nested at x on n u v) h
       (gives_unless (LeavesOn a.declared) (dat_decl_found places es a.declared w.is_nested at on n u v) _
       (λ none. let i = on-name a.declared x.name (m.Dat (dat_count a.declared.mesh)) h.declared tt in
-          record { leaves = record { file = i.leaves.file; own = i.leaves.own; sites = i.leaves.sites }; stay =
-          stay-self a.declared.vars }))
+      record {
+        leaves = record { file = i.leaves.file; own = i.leaves.own; sites = i.leaves.sites };
+        stay =
+            stay-self a.declared.vars;
+      }))
   call-on a w (tree.DeclConst at n u g) h =
       declares-on a (judged_constant places cs a.declared w.is_nested at n u g) h
       (gives_unless (LeavesOn a.declared) (constant_decl_found places a.declared w.is_nested at n u g)
-          (after_constant places cs a.declared g.name.name (file_cells places (means a.declared.names g.name.name)))
+      (after_constant places cs a.declared g.name.name (file_cells places (means a.declared.names g.name.name)))
       (λ none. after-constant places cs a.declared g.name.name (file_cells places (means a.declared.names g.name.name)) h.declared))
   call-on a w (tree.ParLoop at f l on args) h =
       gives_then (LeavesOn a.declared) (WalkOn a.declared) (judged_loop places es a.declared at f on args)
-          (λ k. Ok (does (Loop (length a.declared.sites)) (behind a k))) (loop-on es places a.declared at f on args h.declared)
+      (λ k. Ok (does (Loop (length a.declared.sites)) (behind a k))) (loop-on es places a.declared at f on args h.declared)
       (λ k i. walk-does a k (Loop (length a.declared.sites)) h i tt)
   call-on a w (tree.Printf at l xs) h =
       gives_unless (WalkOn a.declared) (line_found places cs es at l (length xs) (conversions l.text)) (does (Do (Line l.text (map (resolved places a.declared.names) xs))) a)
       (λ none. walk-step a (Do (Line l.text (map (resolved places a.declared.names) xs))) h tt)
   call-on a w (tree.PrintDat at x l) h =
       gives_unless (WalkOn a.declared) (found_if places (is_none (dat_of (means a.declared.names x.name))) x.at refusal.UnknownDat)
-          (does (Do (Print (or_zero (dat_of (means a.declared.names x.name))) l.text)) a)
+      (does (Do (Print (or_zero (dat_of (means a.declared.names x.name))) l.text)) a)
       (λ none. walk-step a (Do (Print (or_zero (dat_of (means a.declared.names x.name))) l.text)) h tt)
 
   -- ---- statements
@@ -134,43 +143,43 @@ module _ (places : List Pos) (cs : List ConstDecl) (es : List Named) where
     host-on a w (tree.HostDeclaration v) h t = declrs-on places a w v.is_const v.declrs h
     host-on a w (tree.HostBlock at hs) h t =
         gives_then (WalkOn a.declared) (WalkOn a.declared) (judged_hosts places cs es (opened places cs es a) (nested w) hs)
-            (λ b. Ok (ended places cs es a (Block b.steps) b)) (hosts-on (opened places cs es a) (nested w) hs (opened-walk a h.declared) t)
+        (λ b. Ok (ended places cs es a (Block b.steps) b)) (hosts-on (opened places cs es a) (nested w) hs (opened-walk a h.declared) t)
         (λ b i. block a b (Block b.steps) h i i.walk.steps)
     host-on a w (tree.HostEmpty at) h t = walk-self a h
     host-on a w (tree.HostAssign e) h t = walk-step a (Do (assignment places cs es a.declared.names e)) h (target-free a.declared h.declared e.place t)
     host-on a w (tree.HostIf at e x) h t =
         gives_then (λ (c : Asked). Unit {0}) (WalkOn a.declared) (judged_static places a.declared.names e)
-            (λ c. judged_host places cs es (opened places cs es a) (nested w) x >>= λ b. Ok
-            (followed_by places cs es a (Choose c (Block b.steps) (Block NoStep)) b)) (gives_any (judged_static places a.declared.names e))
+        (λ c. judged_host places cs es (opened places cs es a) (nested w) x >>= λ b. Ok
+        (followed_by places cs es a (Choose c (Block b.steps) (Block NoStep)) b)) (gives_any (judged_static places a.declared.names e))
         (λ c i. gives_then (WalkOn a.declared) (WalkOn a.declared) (judged_host places cs es (opened places cs es a) (nested w) x)
-            (λ b. Ok (followed_by places cs es a (Choose c (Block b.steps) (Block NoStep)) b))
-            (host-on (opened places cs es a) (nested w) x (opened-walk a h.declared) t)
+        (λ b. Ok (followed_by places cs es a (Choose c (Block b.steps) (Block NoStep)) b))
+        (host-on (opened places cs es a) (nested w) x (opened-walk a h.declared) t)
         (λ b j. part a b (Choose c (Block b.steps) (Block NoStep)) h j (j.walk.steps, tt)))
     host-on a w (tree.HostIfElse at e x y) h t =
         let k = a.declared in
         gives_then (λ (c : Asked). Unit {0}) (WalkOn k) (judged_static places k.names e)
         (λ c. judged_host places cs es (opened places cs es a) (nested w) x >>= λ b. judged_host places cs es (opened places cs es b)
-            (nested w) y >>= λ d. Ok (followed_by places cs es a (Choose c (Block b.steps) (Block d.steps)) d))
+        (nested w) y >>= λ d. Ok (followed_by places cs es a (Choose c (Block b.steps) (Block d.steps)) d))
         (gives_any (judged_static places k.names e))
         (λ c i. gives_then (Both (WalkOn k) (λ b. AssignsVariables places cs es (opened places cs es b) (nested w) y)) (WalkOn k) (judged_host places cs es (opened places cs es a) (nested w) x)
         (λ b. judged_host places cs es (opened places cs es b) (nested w) y >>= λ d. Ok (followed_by places cs es a (Choose c (Block b.steps) (Block d.steps)) d))
         (both (WalkOn k) (λ b. AssignsVariables places cs es (opened places cs es b) (nested w) y)
-            (judged_host places cs es (opened places cs es a) (nested w) x)
-            (host-on (opened places cs es a) (nested w) x (opened-walk a h.declared) t.0) t.1)
+        (judged_host places cs es (opened places cs es a) (nested w) x)
+        (host-on (opened places cs es a) (nested w) x (opened-walk a h.declared) t.0) t.1)
         (λ b j. gives_then (WalkOn b.declared) (WalkOn k) (judged_host places cs es (opened places cs es b) (nested w) y)
-            (λ d. Ok (followed_by places cs es a (Choose c (Block b.steps) (Block d.steps)) d))
+        (λ d. Ok (followed_by places cs es a (Choose c (Block b.steps) (Block d.steps)) d))
         (host-on (opened places cs es b) (nested w) y (opened-walk b j.gives.walk.declared) j.also)
         (λ d l. part a d (Choose c (Block b.steps) (Block d.steps)) h (walk-trans k b.declared d j.gives.stay l)
-            (steps_more b.declared.vars d.declared.vars l.stay b.steps j.gives.walk.steps, l.walk.steps))))
+        (steps_more b.declared.vars d.declared.vars l.stay b.steps j.gives.walk.steps, l.walk.steps))))
     host-on a w (tree.HostFor f x) h t =
         let k = a.declared in
         gives_then (λ (r : Asked × Asked). Unit {0}) (WalkOn k) (judged_bounds places cs es a f)
-            (λ r. judged_host places cs es (with_counter places cs es a f.name) turning x >>= λ b. Ok
-            (ended places cs es a (Repeat r.0 r.1 (Block b.steps)) b)) (gives_any (judged_bounds places cs es a f))
+        (λ r. judged_host places cs es (with_counter places cs es a f.name) turning x >>= λ b. Ok
+        (ended places cs es a (Repeat r.0 r.1 (Block b.steps)) b)) (gives_any (judged_bounds places cs es a f))
         (λ r i. gives_then (WalkOn k) (WalkOn k) (judged_host places cs es (with_counter places cs es a f.name) turning x) (λ b. Ok (ended places cs es a (Repeat r.0 r.1 (Block b.steps)) b))
         (walk-moved k (with_counter places cs es a f.name).declared
-            (judged_host places cs es (with_counter places cs es a f.name) turning x) (stay-self k.vars)
-            (host-on (with_counter places cs es a f.name) turning x (counter-walk a f.name h) t))
+        (judged_host places cs es (with_counter places cs es a f.name) turning x) (stay-self k.vars)
+        (host-on (with_counter places cs es a f.name) turning x (counter-walk a f.name h) t))
         (λ b j. block a b (Repeat r.0 r.1 (Block b.steps)) h j j.walk.steps))
     host-on a w (tree.HostCall c) h t = call-on a w c h
 

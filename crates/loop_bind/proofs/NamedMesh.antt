@@ -81,7 +81,7 @@ module _ (places : List Pos) (cs : List ConstDecl) (es : List Named) where
   file-declr k c (tree.Plain x) h = h
   file-declr k c (tree.Init x e) h =
       gives_then (λ z. Unit {0}) IsNamed (judged_value places k.names e) (λ z. Ok (with_file_value places cs k c x.name z))
-          (gives_any (judged_value places k.names e)) (λ z u. value-named k c x.name z h)
+      (gives_any (judged_value places k.names e)) (λ z u. value-named k c x.name z h)
   file-declr k c (tree.Array x n) h = h
 
   file-declrs : (k : Declared) (c : Bool) (ds : List DeclrTree) → IsNamed k → Gives IsNamed (judged_file_declrs places cs k c ds)
@@ -113,15 +113,15 @@ module _ (places : List Pos) (cs : List ConstDecl) (es : List Named) where
   const-named : (in_for is_nested : Bool) (a : Walked) (x : List ℕ) (e : ExprTree) → WalkIsNamed a → Gives WalkIsNamed (const_at places in_for is_nested a x e)
   const-named true is_nested a x e h =
       gives_then (λ (v : Asked). Unit {0}) WalkIsNamed (judged_static places a.declared.names e)
-          (λ v. Ok (does (Fix v None) (behind a (with_turning places a.declared x)))) (gives_any (judged_static places a.declared.names e))
-          (λ v u. h)
+      (λ v. Ok (does (Fix v None) (behind a (with_turning places a.declared x)))) (gives_any (judged_static places a.declared.names e))
+      (λ v u. h)
   const-named false true a x e h =
       gives_then (λ (v : Asked). Unit {0}) WalkIsNamed (judged_static places a.declared.names e)
-          (λ v. Ok (does (Fix v (Some (length a.declared.vars))) (behind a (with_fixed_later places a.declared x))))
-          (gives_any (judged_static places a.declared.names e)) (λ v u. h)
+      (λ v. Ok (does (Fix v (Some (length a.declared.vars))) (behind a (with_fixed_later places a.declared x))))
+      (gives_any (judged_static places a.declared.names e)) (λ v u. h)
   const-named false false a x e h =
       gives_then (λ (z : ℤ). Unit {0}) WalkIsNamed (judged_value places a.declared.names e)
-          (λ z. Ok (behind a (with_fixed places a.declared x z))) (gives_any (judged_value places a.declared.names e)) (λ z u. h)
+      (λ z. Ok (behind a (with_fixed places a.declared x z))) (gives_any (judged_value places a.declared.names e)) (λ z u. h)
 
   declr-named : (a : Walked) (w : Spot) (c : Bool) (d : DeclrTree) → WalkIsNamed a → Gives WalkIsNamed (judged_declr places a w c d)
   declr-named a w true (tree.Init x e) h = const-named w.in_for w.is_nested a x.name e h
@@ -201,27 +201,27 @@ module _ (places : List Pos) (cs : List ConstDecl) (es : List Named) where
       gives_unless WalkIsNamed (line_found places cs es at l (length xs) (conversions l.text)) (does (Do (Line l.text (map (resolved places a.declared.names) xs))) a) (λ none. h)
   call-on a w (tree.PrintDat at x l) h n' =
       gives_unless WalkIsNamed (found_if places (is_none (dat_of (means a.declared.names x.name))) x.at refusal.UnknownDat)
-          (does (Do (Print (or_zero (dat_of (means a.declared.names x.name))) l.text)) a) (λ none. h)
+      (does (Do (Print (or_zero (dat_of (means a.declared.names x.name))) l.text)) a) (λ none. h)
 
   mutual
     host-on : (a : Walked) (w : Spot) (x : HostTree) → WalkIsNamed a → HostIsNamed x → Gives WalkIsNamed (judged_host places cs es a w x)
     host-on a w (tree.HostDeclaration v) h n = declrs-named a w v.is_const v.declrs h
     host-on a w (tree.HostBlock at hs) h n =
         gives_then WalkIsNamed WalkIsNamed (judged_hosts places cs es (opened places cs es a) (nested w) hs)
-            (λ b. Ok (ended places cs es a (Block b.steps) b)) (hosts-on (opened places cs es a) (nested w) hs h n) (λ b i. i)
+        (λ b. Ok (ended places cs es a (Block b.steps) b)) (hosts-on (opened places cs es a) (nested w) hs h n) (λ b i. i)
     host-on a w (tree.HostEmpty at) h n = h
     host-on a w (tree.HostAssign e) h n = h
     host-on a w (tree.HostIf at e x) h n =
         gives_then (λ (c : Asked). Unit {0}) WalkIsNamed (judged_static places a.declared.names e)
-            (λ c. judged_host places cs es (opened places cs es a) (nested w) x >>= λ b. Ok
-            (followed_by places cs es a (Choose c (Block b.steps) (Block NoStep)) b)) (gives_any (judged_static places a.declared.names e))
+        (λ c. judged_host places cs es (opened places cs es a) (nested w) x >>= λ b. Ok
+        (followed_by places cs es a (Choose c (Block b.steps) (Block NoStep)) b)) (gives_any (judged_static places a.declared.names e))
         (λ c u. gives_then WalkIsNamed WalkIsNamed (judged_host places cs es (opened places cs es a) (nested w) x)
-            (λ b. Ok (followed_by places cs es a (Choose c (Block b.steps) (Block NoStep)) b))
-            (host-on (opened places cs es a) (nested w) x h n) (λ b i. i))
+        (λ b. Ok (followed_by places cs es a (Choose c (Block b.steps) (Block NoStep)) b))
+        (host-on (opened places cs es a) (nested w) x h n) (λ b i. i))
     host-on a w (tree.HostIfElse at e x y) h n =
         gives_then (λ (c : Asked). Unit {0}) WalkIsNamed (judged_static places a.declared.names e)
         (λ c. judged_host places cs es (opened places cs es a) (nested w) x >>= λ b. judged_host places cs es (opened places cs es b)
-            (nested w) y >>= λ d. Ok (followed_by places cs es a (Choose c (Block b.steps) (Block d.steps)) d))
+        (nested w) y >>= λ d. Ok (followed_by places cs es a (Choose c (Block b.steps) (Block d.steps)) d))
         (gives_any (judged_static places a.declared.names e))
         (λ c u. gives_then WalkIsNamed WalkIsNamed (judged_host places cs es (opened places cs es a) (nested w) x)
         (λ b. judged_host places cs es (opened places cs es b) (nested w) y >>= λ d. Ok (followed_by places cs es a (Choose c (Block b.steps) (Block d.steps)) d))
@@ -230,11 +230,11 @@ module _ (places : List Pos) (cs : List ConstDecl) (es : List Named) where
         (λ d. Ok (followed_by places cs es a (Choose c (Block b.steps) (Block d.steps)) d)) (host-on (opened places cs es b) (nested w) y i n.1) (λ d j. j)))
     host-on a w (tree.HostFor f x) h n =
         gives_then (λ (r : Asked × Asked). Unit {0}) WalkIsNamed (judged_bounds places cs es a f)
-            (λ r. judged_host places cs es (with_counter places cs es a f.name) turning x >>= λ b. Ok
-            (ended places cs es a (Repeat r.0 r.1 (Block b.steps)) b)) (gives_any (judged_bounds places cs es a f))
+        (λ r. judged_host places cs es (with_counter places cs es a f.name) turning x >>= λ b. Ok
+        (ended places cs es a (Repeat r.0 r.1 (Block b.steps)) b)) (gives_any (judged_bounds places cs es a f))
         (λ r u. gives_then WalkIsNamed WalkIsNamed (judged_host places cs es (with_counter places cs es a f.name) turning x)
-            (λ b. Ok (ended places cs es a (Repeat r.0 r.1 (Block b.steps)) b)) (host-on (with_counter places cs es a f.name) turning x h n)
-            (λ b i. i))
+        (λ b. Ok (ended places cs es a (Repeat r.0 r.1 (Block b.steps)) b)) (host-on (with_counter places cs es a f.name) turning x h n)
+        (λ b i. i))
     host-on a w (tree.HostCall c) h n = call-on a w c h n
 
     hosts-on : (a : Walked) (w : Spot) (xs : HostTrees) → WalkIsNamed a → HostsAreNamed xs → Gives WalkIsNamed (judged_hosts places cs es a w xs)
@@ -253,7 +253,7 @@ all-named p r es n =
     (gives_then IsNamed WalkIsNamed (judged_tops p.places r.consts.items es nothing_declared p.tops) (λ k. judged_hosts p.places r.consts.items es (quiet k) outermost p.main.body)
     (tops-named p.places r.consts.items es nothing_declared p.tops none-named) (λ k i. hosts-on p.places r.consts.items es (quiet k) outermost p.main.body i n))
     (λ w i. gives_then (λ u. Unit {0}) (λ (b : BoundValue). HasNames b.mesh) (trace w.declared.mesh (happens w))
-        (λ u. Ok (finished r w.declared u)) (gives_any (trace w.declared.mesh (happens w))) (λ u j. i))
+    (λ u. Ok (finished r w.declared u)) (gives_any (trace w.declared.mesh (happens w))) (λ u j. i))
 
 pub bound-names : BoundNamesAreNames
 bound-names source p r es b reads e = subst (Gives (λ (b : BoundValue). HasNames b.mesh)) e (all-named p r es (main-named source p reads))

@@ -129,7 +129,7 @@ pub main-named : (bytes : List ℕ) (p : ProgramTree) → Reads bytes p → Host
 main-named bytes p r =
     let m = from-kinds (program p) (subst KindsAreNamed (sym r.prints.kinds) (lexed-named bytes r.tokens r.lexed)) in
     let last = named_word 0 word.OpExit p.main.exit_at ∷ sign_at 0 sign.LeftParen ∷ sign_at 0 sign.RightParen ∷ sign_at 0 sign.Semicolon
-        ∷ (return_marks p.main.returned ++ sign_at 0 sign.RightBrace ∷ []) in
+    ∷ (return_marks p.main.returned ++ sign_at 0 sign.RightBrace ∷ []) in
     let rest = sign_at 0 sign.RightParen ∷ sign_at 0 sign.LeftBrace ∷ (hosts 1 p.main.body ++ last) in
     let n = (back (tops p.tops) (main p.main) m).1.1.1.1.1.1.1 in
     hosts-named 1 p.main.body (front (hosts 1 p.main.body) last (back (argv_marks p.main.argv_has_brackets) rest n).1.1)

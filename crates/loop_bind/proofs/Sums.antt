@@ -23,5 +23,5 @@ weight_within g (y ∷ ys) zero x h e =
     rw (first, weight-cons g y ys) (at_most (weight g (item_of y)) (weight_of_all g (map item_of ys)))
 weight_within g (y ∷ ys) (suc k) x h e =
     rw (weight-cons g y ys, weight-cons g y (take k ys))
-        (behind (weight g (item_of y)) (weight_of_all g (map item_of (take k ys))) (weight g (item_of x)) (weight_of_all g (map item_of ys))
-        (weight_within g ys k x (omega arith) e))
+    (behind (weight g (item_of y)) (weight_of_all g (map item_of (take k ys))) (weight g (item_of x)) (weight_of_all g (map item_of ys))
+    (weight_within g ys k x (omega arith) e))

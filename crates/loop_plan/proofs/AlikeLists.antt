@@ -85,9 +85,10 @@ pub loops_same : (es fs : List (ℕ × SitePlanValue)) → map entry es ≡ map 
 loops_same [] [] h = refl
 loops_same [] (f ∷ fs) h = longer (entry f) (map entry fs) h
 loops_same (e ∷ es) [] h = longer (entry e) (map entry es) (sym h)
-loops_same (e ∷ es) (f ∷ fs) h = rw
-    (loop_same e f (same_head (entry e) (entry e) (entry f) (map entry es) (map entry fs) h),
-    loops_same es fs (same_tail (entry e) (entry f) (map entry es) (map entry fs) h)) refl
+loops_same (e ∷ es) (f ∷ fs) h = rw (
+  loop_same e f (same_head (entry e) (entry e) (entry f) (map entry es) (map entry fs) h),
+  loops_same es fs (same_tail (entry e) (entry f) (map entry es) (map entry fs) h),
+) refl
 
 pub items_same : (g : MeshValue) (k : ℕ) (is : List ItemValue) (ps qs : List ItemPlanValue)
     → map (λ (p : ItemPlanValue). p.exchange) ps ≡ map (λ (p : ItemPlanValue). p.exchange) qs → item_lines g k is ps ≡ item_lines g k is qs

@@ -38,7 +38,7 @@ module _ (g : MeshValue) (o : Owners) (p : Perms) (meshes : List RankMesh) where
         let ls : t < length m.0.sets.items = (let e : length m.0.sets.items ≡ set_count g = mesh.sets_count in omega arith) in
         let s : (x : LocalSet) × ((d : LocalSet) → get_or m.0.sets.items t d ≡ x) = element_at m.0.sets.items t ls in
         let e : get_or (map (λ (x : RankMesh). x.sets.items) meshes) r [] ≡ m.0.sets.items =
-            get_or-map (λ (x : RankMesh). x.sets.items) meshes r m.0 [] lm ∙ ap (λ (x : RankMesh). x.sets.items) (m.1 m.0) in
+        get_or-map (λ (x : RankMesh). x.sets.items) meshes r m.0 [] lm ∙ ap (λ (x : RankMesh). x.sets.items) (m.1 m.0) in
         record {
           set = s.0;
           is = subst (IsLocalSet g o p t r) (s.1 s.0) (mesh.sets t s.0 lt);
@@ -65,7 +65,7 @@ module _ (g : MeshValue) (o : Owners) (p : Perms) (meshes : List RankMesh) where
         let l : IsLocal r t = local r t lr lt in
         let n : length l.set.original ≤ set_size g t =
         number_few (set_size g t) (perm_in p t) (λ x. owns o t x r) (λ x. imports_execute g o t x r) (λ x. imports_nonexecute g o t x r)
-            l.set.original (perms.numbers t lt) l.is.inverse (groups_apart g o t r) in
+        l.set.original (perms.numbers t lt) l.is.inverse (groups_apart g o t r) in
         omega (arith, l.executed, l.is.own, l.is.exec, l.is.inverse.count)
 
     -- it has copies of them
@@ -83,7 +83,7 @@ module _ (g : MeshValue) (o : Owners) (p : Perms) (meshes : List RankMesh) where
         let m : (x : RankMesh) × ((d : RankMesh) → get_or meshes r d ≡ x) = element_at meshes r lm in
         let mesh : IsRankMesh g o p r m.0 = subst (IsRankMesh g o p r) (m.1 m.0) (h.ranks r m.0 lr) in
         let e : get_or (map (λ (x : RankMesh). x.sets.items) meshes) r [] ≡ m.0.sets.items =
-            get_or-map (λ (x : RankMesh). x.sets.items) meshes r m.0 [] lm ∙ ap (λ (x : RankMesh). x.sets.items) (m.1 m.0) in
+        get_or-map (λ (x : RankMesh). x.sets.items) meshes r m.0 [] lm ∙ ap (λ (x : RankMesh). x.sets.items) (m.1 m.0) in
         ap (λ (z : List LocalSet). length z) e ∙ mesh.sets_count
 
     -- what is imported is not owned
@@ -123,11 +123,11 @@ module _ (g : MeshValue) (o : Owners) (p : Perms) (meshes : List RankMesh) where
           let m : IsLocal s t = local s t ls lt in
           let is : is_sent w.0 ≡ true = ap (list_any (nat_eq w.0)) (owned_are s t m)
           ∙ own_is_owned (set_size g t) (perm_in p t) (λ y. owns o t y s) (λ y. imports_execute g o t y s)
-              (λ y. imports_nonexecute g o t y s) m.set.original (perms.numbers t lt) m.is.inverse w.0 w.1 w.3 in
+          (λ y. imports_nonexecute g o t y s) m.set.original (perms.numbers t lt) m.is.inverse w.0 w.1 w.3 in
           ap (list_any is_sent) (imported_are r t l)
           ∙ import_is_imported (set_size g t) (perm_in p t) (λ y. owns o t y r) (λ y. imports_execute g o t y r)
-              (λ y. imports_nonexecute g o t y r) l.set.original (perms.numbers t lt) l.is.inverse w.0 is_sent w.1 (not_own t w.0 r w.2) w.2
-              is
+          (λ y. imports_nonexecute g o t y r) l.set.original (perms.numbers t lt) l.is.inverse w.0 is_sent w.1 (not_own t w.0 r w.2) w.2
+          is
 
       pub messages : (imports_from (sets_of meshes s) (sets_of meshes r) t ≡ true) ↔ ((x : ℕ) × (x < set_size g t) × (imports g o t x r ≡ true) × (owns o t x s ≡ true))
       messages = (exported, sent)

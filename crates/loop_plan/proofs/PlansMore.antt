@@ -32,7 +32,7 @@ plans_more b h n plans v e a i k l =
 pub by_bits : (b : BoundValue) (h : Halos) (k dats : ℕ) (bits : List Bool) (v : ItemPlan) → dats ≡ dat_count b.mesh
     → ((d : ℕ) → d < dat_count b.mesh → slice_index_or bits d false ≡ stale_before b k d)
     → v.exchange.items ≡ listed dats (λ d. slice_index_or bits d false && item_needs b k d)
-        → v.pairs.items ≡ pairs_below (passes_by_exports b.mesh h v.exchange.items) h.ranks h.ranks → IsItemPlan b h k (item_plan_of v)
+    → v.pairs.items ≡ pairs_below (passes_by_exports b.mesh h v.exchange.items) h.ranks h.ranks → IsItemPlan b h k (item_plan_of v)
 by_bits b h k dats bits v e q x p = record {
   exchange = x ∙ (ap (λ z. listed z (λ d. slice_index_or bits d false && item_needs b k d)) e
       ∙ listed_agree (dat_count b.mesh) (λ d. slice_index_or bits d false && item_needs b k d) (exchanged_at b k) (λ d m. ap (λ z. z && item_needs b k d) (q d m)));

@@ -35,7 +35,7 @@ length_pairs : (t : ℕ → ℕ → Bool) (n m : ℕ) → length (pairs_below t 
 length_pairs t n zero = refl
 length_pairs t n (suc m) =
     let a : length (pairs_below t n m ++ map (pair m) (listed n (t m))) ≡ length (pairs_below t n m) + length
-        (map (pair m) (listed n (t m))) = length-append (pairs_below t n m) (map (pair m) (listed n (t m))) in
+    (map (pair m) (listed n (t m))) = length-append (pairs_below t n m) (map (pair m) (listed n (t m))) in
     let b : length (pairs_below t n m) ≡ sum_below (λ s. tally (t s) n) m = length_pairs t n m in
     let c : length (map (pair m) (listed n (t m))) ≡ tally (t m) n = length-map (listed n (t m)) (pair m) ∙ length_listed (t m) n in
     omega arith

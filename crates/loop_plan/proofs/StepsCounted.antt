@@ -111,7 +111,7 @@ module _ (o : Outline) (g k r : ℕ) where
       let f : length (below (λ x. where_true (in_group o g k r b c j x) (End k r x ∷ [])) n) ≡ tally (in_group o g k r b c j) n = length_where (in_group o g k r b c j) (λ x. End k r x) n in
       let h : tally (in_group o g k r b c j) n ≡ sum_below (mark b c j) n = tally_sum (in_group o g k r b c j) n in
       let a : length (group_steps o g k r b c j) ≡ length (below (λ x. where_true (in_group o g k r b c j x) (Begin k r x ∷ [])) n) + length
-          (below (λ x. where_true (in_group o g k r b c j x) (End k r x ∷ [])) n) =
+      (below (λ x. where_true (in_group o g k r b c j x) (End k r x ∷ [])) n) =
       length-append (below (λ x. where_true (in_group o g k r b c j x) (Begin k r x ∷ [])) n) (below (λ x. where_true (in_group o g k r b c j x) (End k r x ∷ [])) n) in
       omega arith
 
@@ -161,11 +161,11 @@ module _ (o : Outline) (g k r : ℕ) where
   all_blocks =
       length_below (λ h. below (λ b. where_true (o.block_colour k r b == h) (block_steps o g k r b)) (blocks o k r)) (above (o.block_colour k r) (blocks o k r))
       ∙ (same_sum (λ h. length (below (λ b. where_true (o.block_colour k r b == h) (block_steps o g k r b)) (blocks o k r)))
-          (λ h. sum_below (λ b. one_if (o.block_colour k r b == h) * length (block_steps o g k r b)) (blocks o k r))
-          (above (o.block_colour k r) (blocks o k r)) (λ h l. of_colour h)
+      (λ h. sum_below (λ b. one_if (o.block_colour k r b == h) * length (block_steps o g k r b)) (blocks o k r))
+      (above (o.block_colour k r) (blocks o k r)) (λ h l. of_colour h)
       ∙ (sum_swap (λ h b. one_if (o.block_colour k r b == h) * length (block_steps o g k r b)) (above (o.block_colour k r) (blocks o k r)) (blocks o k r)
       ∙ same_sum (λ b. sum_below (λ h. one_if (o.block_colour k r b == h) * length (block_steps o g k r b))
-          (above (o.block_colour k r) (blocks o k r))) (λ b. length (block_steps o g k r b)) (blocks o k r)
+      (above (o.block_colour k r) (blocks o k r))) (λ b. length (block_steps o g k r b)) (blocks o k r)
       (λ b l. one_of (o.block_colour k r b) (above (o.block_colour k r) (blocks o k r)) (length (block_steps o g k r b)) (above_each (o.block_colour k r) (blocks o k r) b l))))
     where
       of_colour : (h : ℕ) → length (below (λ b. where_true (o.block_colour k r b == h) (block_steps o g k r b)) (blocks o k r)) ≡ sum_below
@@ -173,8 +173,8 @@ module _ (o : Outline) (g k r : ℕ) where
       of_colour h =
           length_below (λ b. where_true (o.block_colour k r b == h) (block_steps o g k r b)) (blocks o k r)
           ∙ same_sum (λ b. length (where_true (o.block_colour k r b == h) (block_steps o g k r b)))
-              (λ b. one_if (o.block_colour k r b == h) * length (block_steps o g k r b)) (blocks o k r)
-              (λ b l. length_cond (o.block_colour k r b == h) (block_steps o g k r b))
+          (λ b. one_if (o.block_colour k r b == h) * length (block_steps o g k r b)) (blocks o k r)
+          (λ b l. length_cond (o.block_colour k r b == h) (block_steps o g k r b))
 
   -- an element that the rank runs has two steps
   pub element_length : length (element_steps o g k r) ≡ 2 * tally (runs o k r) n
@@ -213,7 +213,7 @@ module _ (o : Outline) (g : ℕ) where
       let b : length (below (receives_of o k) o.ranks) ≡ messages o k = receive_length k in
       let c : length (below (element_steps o g k) o.ranks) ≡ 2 * element_runs o k = run_length k in
       let d : length (below (sends_of o k) o.ranks ++ (below (receives_of o k) o.ranks ++ below (element_steps o g k) o.ranks)) ≡ length
-          (below (sends_of o k) o.ranks) + length (below (receives_of o k) o.ranks ++ below (element_steps o g k) o.ranks) =
+      (below (sends_of o k) o.ranks) + length (below (receives_of o k) o.ranks ++ below (element_steps o g k) o.ranks) =
       length-append (below (sends_of o k) o.ranks) (below (receives_of o k) o.ranks ++ below (element_steps o g k) o.ranks) in
       let e : length (below (receives_of o k) o.ranks ++ below (element_steps o g k) o.ranks) ≡ length (below (receives_of o k) o.ranks) + length (below (element_steps o g k) o.ranks) =
       length-append (below (receives_of o k) o.ranks) (below (element_steps o g k) o.ranks) in

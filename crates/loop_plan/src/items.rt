@@ -14,8 +14,8 @@ use crate::messages::{all_receivers, messages};
 use crate::types::ItemPlan;
 use bound_program::Bound;
 use local_mesh::halo_lists::Halos;
-use op_num::OutOfMemory;
 use local_mesh::rank_sets::RankSet;
+use op_num::OutOfMemory;
 use std::alloc::Global;
 
 // The plan of an item; behind it the bits are those behind the item.

@@ -10,8 +10,8 @@ ghost use Rattle.loop_plan.specs.Exports.{exports_in, is_some_exported, passes_b
 use crate::types::Pair;
 use bound_program::Mesh;
 use local_mesh::halo_lists::Halos;
-use op_num::OutOfMemory;
 use local_mesh::rank_sets::RankSet;
+use op_num::OutOfMemory;
 use std::alloc::Global;
 
 // The set, with the rank where that is wanted.

@@ -90,9 +90,9 @@ module _ (places : List Pos) (g : MeshValue) (dim : ℕ) (x : Ident) where
   aimed (Some s) (Some t) (Some zs) p q d e =
       let w : awaited g (Some s) dim ≡ Some (set_size g s * dim) = ap (λ (b : Bool). if b then Some (set_size g s * dim) else None) d in
       let f : nat_eq (length zs) (set_size g s * dim) ≡ true =
-          not-false (nat_eq (length zs) (set_size g s * dim))
-          (not_in InOrder (not (nat_eq (length zs) (set_size g s * dim))) x.at (refusal.DimMismatch (place places x.at))
-          (subst (λ o. data_found places (Some zs) o x ≡ []) w e)) in
+      not-false (nat_eq (length zs) (set_size g s * dim))
+      (not_in InOrder (not (nat_eq (length zs) (set_size g s * dim))) x.at (refusal.DimMismatch (place places x.at))
+      (subst (λ o. data_found places (Some zs) o x ≡ []) w e)) in
       ap (λ o. target_found places g dim x (Some zs) o (Some t)) w
       ∙ ap (λ (b : Bool). if b then stray_found places (map_count g) dim x (first_stray (set_size g t) 0 zs) else []) f
 
@@ -125,13 +125,13 @@ module _ (places : List Pos) (entries : List Named) (k : Declared) (nested : Boo
       let c = cells_found places t (k.filled + length (or_none given)) in
       let o = least_from (least_from None p) m in
       let whole : first_of (p ++ (m ++ y ++ c)) ≡ least_from (least_from o y) c = least_append None p (m ++ y ++ c)
-          ∙ least_append (least_from None p) (m ++ y) c ∙ ap (λ z. least_from z c) (least_append (least_from None p) m y) in
+      ∙ least_append (least_from None p) (m ++ y) c ∙ ap (λ z. least_from z c) (least_append (least_from None p) m y) in
       let shape : first_of (p ++ (m ++ c)) ≡ least_from o c = least_append None p (m ++ c) ∙ least_append (least_from None p) m c in
       let a = target_in_order places k.mesh (count_of n) x given awaits (set_of (means k.names to.name)) in
       let size = k.filled + length (or_none given) in
       let s : least_from (least_from o y) c ≡ least_from (least_from o c) y =
-          subst (λ z. least_from (least_from o z) c ≡ least_from (least_from o c) z) (sym a.2)
-          (swap x.at t a.1 (refusal.Limit counted.MeshCells size) o a.0 (nat_lt max_cells size)) in
+      subst (λ z. least_from (least_from o z) c ≡ least_from (least_from o c) z) (sym a.2)
+      (swap x.at t a.1 (refusal.Limit counted.MeshCells size) o a.0 (nat_lt max_cells size)) in
       whole ∙ s ∙ ap (λ z. least_from z y) (sym shape)
 
   -- where nothing else is wrong, each value has its set

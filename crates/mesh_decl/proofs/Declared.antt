@@ -74,9 +74,9 @@ pub sizes_fit : (g : MeshValue) → IsMesh g → (s : ℕ) → set_size g s < 2 
 unfolding size_in
 sizes_fit g i s = ⊎_elim
     (λ (l : s < length g.sets). All-get_or (λ n. n < 2 ^ 32) (map (λ (d : SetDecl). d.size) g.sets) s 0
-        (rw (length-map g.sets (λ (d : SetDecl). d.size)) l) (All-map (λ n. n < 2 ^ 32) (λ (d : SetDecl). d.size) g.sets i.sizes))
+    (rw (length-map g.sets (λ (d : SetDecl). d.size)) l) (All-map (λ n. n < 2 ^ 32) (λ (d : SetDecl). d.size) g.sets i.sizes))
     (λ (l : length g.sets ≤ s). let none : get_or (map (λ (d : SetDecl). d.size) g.sets) s 0 ≡ 0 =
-        get_or_past (map (λ (d : SetDecl). d.size) g.sets) s 0 (rw (length-map g.sets (λ (d : SetDecl). d.size)) l) in omega arith)
+    get_or_past (map (λ (d : SetDecl). d.size) g.sets) s 0 (rw (length-map g.sets (λ (d : SetDecl). d.size)) l) in omega arith)
     (cases_lt s (length g.sets))
 
 -- an index of an element's values
@@ -121,11 +121,11 @@ module _ (g : MeshValue) (i : IsMesh g) (m : ℕ) (h : m < map_count g) where
   unfolding target
   within element place e p =
       let low : element * map_dim g m + place < length (map_targets g m) =
-          subst (λ n. element * map_dim g m + place < n) (sym long)
-          (index_below element (set_size g (map_from g m)) (map_dim g m) place e p) in
+      subst (λ n. element * map_dim g m + place < n) (sym long)
+      (index_below element (set_size g (map_from g m)) (map_dim g m) place e p) in
       element_below (set_size g (map_to g m)) (get_or (map_targets g m) (element * map_dim g m + place) (pos 0))
-          (All-get_or (λ t. is_element (set_size g (map_to g m)) t ≡ true) (map_targets g m) (element * map_dim g m + place) (pos 0) low
-          all_elements)
+      (All-get_or (λ t. is_element (set_size g (map_to g m)) t ≡ true) (map_targets g m) (element * map_dim g m + place) (pos 0) low
+      all_elements)
 
   pub map_at : IsMapAt g m
   map_at = record {

@@ -72,7 +72,7 @@ one_short : (name : List ℕ) (x : ℕ) → length name ≤ 6 → x ≤ 160801 �
 unfolding word
 one_short name x ln l =
     let line : length (line_of (codes "int" ∷ name ∷ signed_decimal (pos x) ∷ [])) ≤ sum_by word
-        (codes "int" ∷ name ∷ signed_decimal (pos x) ∷ []) = line_long (codes "int" ∷ name ∷ signed_decimal (pos x) ∷ []) in
+    (codes "int" ∷ name ∷ signed_decimal (pos x) ∷ []) = line_long (codes "int" ∷ name ∷ signed_decimal (pos x) ∷ []) in
     let value : length (signed_decimal (pos x)) ≤ 7 = length_signed_le 6 (pos x) (omega arith) (omega arith) in
     let whole : length (line_of (codes "int" ∷ name ∷ signed_decimal (pos x) ∷ []) ++ []) ≡ length (line_of (codes "int" ∷ name ∷ signed_decimal (pos x) ∷ [])) + 0 =
     length-append (line_of (codes "int" ∷ name ∷ signed_decimal (pos x) ∷ [])) []
@@ -88,7 +88,7 @@ many_short name zs ln lz lt =
     let values : length (line_of (pieces_of form.One zs)) ≤ sum_by token zs = values_long zs in
     let count : length (decimal (length zs)) ≤ 7 = length-decimal-le 7 (length zs) (omega arith) (omega arith) (omega arith) in
     let whole : length (line_of front ++ (line_of (pieces_of form.One zs) ++ [])) ≡ length (line_of front) + length
-        (line_of (pieces_of form.One zs) ++ []) = length-append (line_of front) (line_of (pieces_of form.One zs) ++ []) in
+    (line_of (pieces_of form.One zs) ++ []) = length-append (line_of front) (line_of (pieces_of form.One zs) ++ []) in
     let behind : length (line_of (pieces_of form.One zs) ++ []) ≡ length (line_of (pieces_of form.One zs)) + 0 = length-append (line_of (pieces_of form.One zs)) [] in
     omega arith
 
@@ -105,7 +105,7 @@ entries_long (e ∷ es) ls =
     ap text_of_lines (append_assoc (entry_lines form.One e) (flat_map (entry_lines form.One) es) ls) ∙ flat_map-append line_of (entry_lines form.One e) rest
     in
     let lengths : length (text_of_lines (flat_map (entry_lines form.One) (e ∷ es) ++ ls)) ≡ length (entry_text form.One e) + length
-        (text_of_lines rest) = ap length apart ∙ length-append (entry_text form.One e) (text_of_lines rest) in
+    (text_of_lines rest) = ap length apart ∙ length-append (entry_text form.One e) (text_of_lines rest) in
     let more : sum_by entry_long (e ∷ es) ≡ length (entry_text form.One e) + sum_by entry_long es = sum_by-cons entry_long e es in
     let behind : length (text_of_lines rest) ≡ sum_by entry_long es + length (text_of_lines ls) = entries_long es ls in
     omega arith
@@ -142,13 +142,39 @@ countable zs h = omega arith
 can_be_spelled : (n : ℕ) → n ≤ 200 → CanBeSpelled (mesh_entries n)
 unfolding mesh_entries
 can_be_spelled n l =
-    let c = are_counted n l in
-    (refl, tt, (refl, tt, (refl, tt,
-        (refl, tt, (refl, countable (nodes_of_cells n) c.cells,
-        (refl, countable (cells_of_edges n) c.edges,
-        (refl, countable (cells_of_boundary n) c.boundary,
-        (refl, countable (walls n) c.wall,
-        (refl, countable (coordinates n) c.places, (refl, countable (sums n) c.starts, (refl, countable (zeros n) c.rest, tt)))))))))))
+    let c = are_counted n l in (
+      refl,
+      tt,
+      (
+        refl,
+        tt,
+        (
+          refl,
+          tt,
+          (
+            refl,
+            tt,
+            (
+              refl,
+              countable (nodes_of_cells n) c.cells,
+              (
+                refl,
+                countable (cells_of_edges n) c.edges,
+                (
+                  refl,
+                  countable (cells_of_boundary n) c.boundary,
+                  (
+                    refl,
+                    countable (walls n) c.wall,
+                    (refl, countable (coordinates n) c.places, (refl, countable (sums n) c.starts, (refl, countable (zeros n) c.rest, tt))),
+                  ),
+                ),
+              ),
+            ),
+          ),
+        ),
+      ),
+    )
 
 -- the values are within the limit
 are_few : (n : ℕ) → n ≤ 200 → total (mesh_entries n) ≤ MESH_VALUES
@@ -195,12 +221,12 @@ is_short n l =
     let d : entry_long (codes "nedge", One (pos (2 * n * (n - 1)))) ≤ 20 = size_short (codes "nedge") (2 * n * (n - 1)) (omega arith) edges in
     let e : entry_long (codes "nbedge", One (pos (4 * n))) ≤ 20 = size_short (codes "nbedge") (4 * n) (omega arith) (omega arith) in
     let f : entry_long (codes "cell", Many (nodes_of_cells n)) ≤ 3000020 =
-        array_short (codes "cell") (nodes_of_cells n) 1292832 (omega arith) c.cells (nodes_light token token_light n l) (omega arith) in
+    array_short (codes "cell") (nodes_of_cells n) 1292832 (omega arith) c.cells (nodes_light token token_light n l) (omega arith) in
     let g : entry_long (codes "ecell", Many (cells_of_edges n)) ≤ 3000020 =
-        array_short (codes "ecell") (cells_of_edges n) 2585664 (omega arith) c.edges (edges_light token token_light n l) (omega arith) in
+    array_short (codes "ecell") (cells_of_edges n) 2585664 (omega arith) c.edges (edges_light token token_light n l) (omega arith) in
     let h : entry_long (codes "bcell", Many (cells_of_boundary n)) ≤ 3000020 =
-        array_short (codes "bcell") (cells_of_boundary n) 6400 (omega arith) c.boundary (boundary_light token token_light n l) (omega arith)
-        in
+    array_short (codes "bcell") (cells_of_boundary n) 6400 (omega arith) c.boundary (boundary_light token token_light n l) (omega arith)
+    in
     let i : entry_long (codes "wall0", Many (walls n)) ≤ 3000020 = array_short (codes "wall0") (walls n) 6400 (omega arith) c.wall (walls_light token token_light n l) (omega arith) in
     let j : entry_long (codes "x0", Many (coordinates n)) ≤ 3000020 = array_short (codes "x0") (coordinates n) 1292832 (omega arith) c.places (coordinates_light token token_light n l) (omega arith) in
     let k : entry_long (codes "q0", Many (sums n)) ≤ 3000020 = array_short (codes "q0") (sums n) 1292832 (omega arith) c.starts (sums_light token token_light n l) (omega arith) in

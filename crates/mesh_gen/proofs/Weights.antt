@@ -24,8 +24,8 @@ below_weigh w f k (suc n) h =
     let more : suc n ≡ n + 1 = omega arith in
     let whole : sum_by w (flat_map f (below (suc n))) ≡ sum_by w (flat_map f (below n)) + sum_by w (f n) =
     ap (λ m. sum_by w (flat_map f (below m))) more ∙ ap (sum_by w)
-        (sym (place_more f n [] (flat_map f (below n)) (flat_map f (below n) ++ f n) refl refl))
-        ∙ sum_by-append w (flat_map f (below n)) (f n)
+    (sym (place_more f n [] (flat_map f (below n)) (flat_map f (below n) ++ f n) refl refl))
+    ∙ sum_by-append w (flat_map f (below n)) (f n)
     in
     let product : suc n * k ≡ n * k + k = suc-mul n k in
     omega arith
@@ -119,7 +119,7 @@ walls_light w h n l =
     sum_by-append w (replicate n (pos 1) ++ replicate n (negsuc 0)) (replicate (2 * n) (pos 0))
     in
     let q : sum_by w (replicate n (pos 1) ++ replicate n (negsuc 0)) ≡ sum_by w (replicate n (pos 1)) + sum_by w (replicate n (negsuc 0)) =
-        sum_by-append w (replicate n (pos 1)) (replicate n (negsuc 0)) in
+    sum_by-append w (replicate n (pos 1)) (replicate n (negsuc 0)) in
     omega arith
 
 pub coordinates_light : (w : ℤ → ℕ) → IsLight w → (n : ℕ) → n ≤ 200 → sum_by w (coordinates n) ≤ 1292832

@@ -125,12 +125,12 @@ module _ (p n c : ℕ) (places : List Pos) (s : Scope) (file_fits : AllAre (Fit 
   assigned_in a (tree.Element x e) h v =
       let b = none_of_both (use_breaches (writing true false true) x.at (means s x.name)) (expr_breaches true s e) h in
       set_in p n c (λ j. Unit {0}) form.Index (value places s e) (pos_of places x.at) a.op (pos_of places a.at) (value places s a.value)
-          (means s x.name) x.at (meant (Fit p n c) s x.name file_fits own_fits) tt (expr_in p n c places s file_fits own_fits e b.1)
-          (expr_in p n c places s file_fits own_fits a.value v) b.0
+      (means s x.name) x.at (meant (Fit p n c) s x.name file_fits own_fits) tt (expr_in p n c places s file_fits own_fits e b.1)
+      (expr_in p n c places s file_fits own_fits a.value v) b.0
   assigned_in a (tree.Target at x) h v =
       set_in p n c (λ j. Unit {0}) form.Deref (Number (pos 0)) (pos_of places x.at) a.op (pos_of places a.at) (value places s a.value)
-          (means s x.name) x.at (meant (Fit p n c) s x.name file_fits own_fits) refl tt
-          (expr_in p n c places s file_fits own_fits a.value v) h
+      (means s x.name) x.at (meant (Fit p n c) s x.name file_fits own_fits) refl tt
+      (expr_in p n c places s file_fits own_fits a.value v) h
 
 module _ (may : ℕ → Type 0) (places : List Pos) (s : Scope) (file_may : AllAre (May may) s.file) (own_may : AllAre (May may) s.own) where
   pub assigned_stores : (a : AssignmentTree) (x : PlaceTree) → place_breaches true s false x ≡ [] → StoresIn may (assigned places s a x)

@@ -70,7 +70,7 @@ vars_marks : (k : ℕ) (v : DeclarationTree) → suc (length v.declrs) ≤ lengt
 vars_marks k v =
     let h = le_front (length v.declrs) (print.commas k (print.declrs k v.declrs)) (print.sign_at k sign.Semicolon ∷ []) (declrs_marks k v.declrs) in
     le_behind (suc (length v.declrs)) (print.word_if v.is_const k word.Const) (print.named_word k word.Int v.at ∷ vars_end k v)
-        (let g : suc (length v.declrs) ≤ suc (length (vars_end k v)) = omega (arith, h) in g)
+    (let g : suc (length v.declrs) ≤ suc (length (vars_end k v)) = omega (arith, h) in g)
 
 assignment_some : (k : ℕ) (a : AssignmentTree) → 1 ≤ length (print.assignment k a)
 assignment_some k a =
@@ -179,7 +179,7 @@ kernel_marks : (f : KernelTree) → suc (suc (suc (length (from_params f)))) ≤
 kernel_marks f =
     le_behind (suc (suc (suc (length (from_params f))))) (print.word_if f.is_static 0 word.Static) (print.word_if f.is_inline 0 word.Inline ++ from_void f)
     (le_behind (suc (suc (suc (length (from_params f))))) (print.word_if f.is_inline 0 word.Inline) (from_void f)
-        (let h : suc (suc (suc (length (from_params f)))) ≤ length (from_void f) = omega arith in h))
+    (let h : suc (suc (suc (length (from_params f)))) ≤ length (from_void f) = omega arith in h))
 
 top_some : (t : TopTree) → 1 ≤ length (print.top t)
 top_some (tree.Extern x) = omega arith

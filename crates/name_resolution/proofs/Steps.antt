@@ -1,5 +1,5 @@
 -- Turns of the loops over declarators and statements of a kernel, views of blocks, and names that stay.
-use Rattle.std.proofs.Common.{◌≡◌, ℕ, zero, suc, ◌+◌, ◌<◌, ◌≤◌, take, arith, Bool, true, false, List, [], ◌∷◌, ◌++◌, map, drop, length, get_or, is_some, refl, sym, ap, subst, ◌∙◌, Vec, Global, Option, drop-cons, add-one, if◌then◌else◌}
+use Rattle.std.proofs.Common.{◌≡◌, ℕ, ◌+◌, ◌<◌, ◌≤◌, take, arith, Bool, true, false, List, [], ◌∷◌, ◌++◌, map, drop, length, get_or, is_some, refl, sym, ap, subst, ◌∙◌, Vec, Global, Option, if◌then◌else◌}
 use mathlib.Core.Former.{Count}
 use Rattle.c_tree.specs.declared.lexer.tokens.Pos.{Pos}
 use Rattle.c_tree.specs.declared.declarations.Declr.{Declr}

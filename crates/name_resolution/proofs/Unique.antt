@@ -15,9 +15,9 @@ use Rattle.name_resolution.specs.Programs.{Answers, Outcome, Resolves, IsFirstRe
 abbrev rule_of : ℕ → TypeRule
 rule_of n =
     if nat_eq n 1 then UnknownName else
-        (if nat_eq n 2 then DuplicateName else
-        (if nat_eq n 3 then NotAnArray else
-        (if nat_eq n 4 then NotAScalar else (if nat_eq n 5 then AssignsCounter else (if nat_eq n 6 then AssignsConst else TooMuchWork)))))
+    (if nat_eq n 2 then DuplicateName else
+    (if nat_eq n 3 then NotAnArray else
+    (if nat_eq n 4 then NotAScalar else (if nat_eq n 5 then AssignsCounter else (if nat_eq n 6 then AssignsConst else TooMuchWork)))))
 
 rule_of_number : (r : TypeRule) → rule_of (number_of r) ≡ r
 rule_of_number UnknownName = refl

@@ -98,10 +98,12 @@ module _ (p n c : ℕ) (low : n ≤ 1024) (places : List Pos) (file : Names) (fi
         (expr_in p n c places (scope file own) file_fits (all_up p next n c (omega arith) own h) v b.0, stmt_in own next x l h b.1, tt)
     stmt_in own next (tree.IfElse at v x y) l h e =
         let b = none_of_both (expr_breaches true (scope file own) v) (stmt_breaches file own next x ++ stmt_breaches file own (behind next (cells x)) y) e in
-        let d = none_of_both (stmt_breaches file own next x) (stmt_breaches file own (behind next (cells x)) y) b.1 in
-        (expr_in p n c places (scope file own) file_fits (all_up p next n c (omega arith) own h) v b.0,
-            stmt_in own next x (omega arith) h d.0, stmt_in own (behind next (cells x)) y (omega arith)
-            (all_up p next (behind next (cells x)) c (omega arith) own h) d.1)
+        let d = none_of_both (stmt_breaches file own next x) (stmt_breaches file own (behind next (cells x)) y) b.1 in (
+          expr_in p n c places (scope file own) file_fits (all_up p next n c (omega arith) own h) v b.0,
+          stmt_in own next x (omega arith) h d.0,
+          stmt_in own (behind next (cells x)) y (omega arith)
+              (all_up p next (behind next (cells x)) c (omega arith) own h) d.1,
+        )
     stmt_in own next (tree.For g x) l h e =
         let b = none_of_both (repeated g.name own) (stmt_breaches file (with_counter own next g) (behind next 1) x) e in
         (omega arith, stmt_in (with_counter own next g) (behind next 1) x (omega arith) (counter_fits p c own next g (omega arith) h) b.1)

@@ -1,6 +1,8 @@
 // The kernel, as resolving its names gives it.
 
-use kernel_model::types::{AssignOp, BinaryOp, ElementForm, Name, Pos, RBody, RExpr, RKernel, RStmt};
+use kernel_model::types::{
+    AssignOp, BinaryOp, ElementForm, Name, Pos, RBody, RExpr, RKernel, RStmt,
+};
 use std::alloc::{AllocError, Global};
 
 fn at(column: u32) -> Pos {

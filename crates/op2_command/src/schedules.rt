@@ -14,12 +14,12 @@ ghost use Rattle.op2_command.specs.Chains.{CanRefuse, SaysFirst};
 use command_words::answer_lines::{Failure, Halt, Limit, Refusal, most};
 use loop_plan::planned_program::Planned;
 use op_num::OutOfMemory;
+use op_num::texts::Tokens;
 use rank_exec::planned_run::judge_list;
 use schedule_check::ScheduleRefusal;
 use schedule_steps::text::{Line, ScheduleTextRefusal, read_schedule};
 use schedule_steps::{Peak, Step};
 use std::alloc::Global;
-use op_num::texts::Tokens;
 
 // A text that spells no steps.
 fn unspelled<'a>(refusal: ScheduleTextRefusal) -> Halt<'a>

@@ -5,11 +5,11 @@ ghost use Rattle.command_words.specs.Words.{named_by};
 ghost use Rattle.op2_command.specs.Writes.{EndsAsDefined};
 
 use crate::answered::answer_to;
+use answers::answer_writing::{write_answer, write_failure};
 use answers::laws::{
     calls_are_complete, calls_report_their_answers, calls_show_their_answers, others_write_nothing,
     unread_files_are_named, usage_is_of_words,
 };
-use answers::answer_writing::{write_answer, write_failure};
 use op_outside::{Shelf, Sink};
 use par_exec::{Gate, Open};
 use std::alloc::Global;

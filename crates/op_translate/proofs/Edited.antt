@@ -58,9 +58,17 @@ call_size x f g h =
     let e1 = ap length (over f (paren_part ∷ second)) in
     let e2 = ap length (over g (name_part x ∷ third)) in
     let e3 = ap length (over h (comma_part ∷ [])) in
-    omega (arith, e1, e2, e3, length-append (all_bytes (gaps f))
-        (codes "(" ++ all_bytes second), length-append (all_bytes (gaps g)) (x ++ all_bytes third), length-append x (all_bytes third),
-        length-append (all_bytes (gaps h)) (codes ","))
+    omega (
+      arith,
+      e1,
+      e2,
+      e3,
+      length-append (all_bytes (gaps f))
+          (codes "(" ++ all_bytes second),
+      length-append (all_bytes (gaps g)) (x ++ all_bytes third),
+      length-append x (all_bytes third),
+      length-append (all_bytes (gaps h)) (codes ","),
+    )
   where
     over : (g : List (List ℕ)) (ps : List Part) → all_bytes (gaps g ++ ps) ≡ all_bytes (gaps g) ++ all_bytes ps
     over g ps = all_bytes-append (gaps g) ps

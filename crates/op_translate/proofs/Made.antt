@@ -45,7 +45,7 @@ one_made m kept old rest text es =
     let front : take (m + length kept - m) bs ≡ kept = ap (λ z. take z bs) (let e : m + length kept - m ≡ length kept = omega arith in e) ∙ take-append_seam kept (old ++ rest) in
     let size : m + length kept + length old - m ≡ length (kept ++ old) = omega (arith, length-append kept old) in
     let back : drop (m + length kept + length old - m) bs ≡ rest = ap (λ z. drop z bs) size
-        ∙ (ap (λ z. drop (length (kept ++ old)) z) (sym (append_assoc kept old rest)) ∙ drop-append_seam (kept ++ old) rest) in
+    ∙ (ap (λ z. drop (length (kept ++ old)) z) (sym (append_assoc kept old rest)) ∙ drop-append_seam (kept ++ old) rest) in
     ap (λ z. z ++ text ++ edited (m + length kept + length old) (drop (m + length kept + length old - m) bs) es) front
     ∙ ap (λ z. kept ++ text ++ edited (m + length kept + length old) z es) back
 

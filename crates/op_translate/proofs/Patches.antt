@@ -158,4 +158,4 @@ spliced (Swap old new ∷ ps) fresh number h a =
     let clear : number ≡ true → ⊥ =
     λ n. true≢false (let q : IsApart (111 ∷ (h.0.old_first.0 ++ rest)) = subst IsApart begins (h.0.apart AtEnd fresh number (all_bytes (old ++ olds ps)) (olds ps) a n) in q) in
     subst (λ z. AreParts AtEnd fresh number z (new ++ news ps)) (sym (all_bytes-append new (news ps)))
-        (h.0.stand AtEnd fresh number (all_bytes (news ps)) (news ps) clear (spliced ps false false h.1 later))
+    (h.0.stand AtEnd fresh number (all_bytes (news ps)) (news ps) clear (spliced ps false false h.1 later))

@@ -77,8 +77,8 @@ mutual
       both_follow (condition k at e) (host (suc k) s) rest (pass (condition k at e) _ (condition_quiet k at e true) (host_follows (suc k) s rest h))
   host_follows k (HostIfElse at e s t) rest h =
       both_follow (condition k at e) _ rest
-          (pass (condition k at e) _ (condition_quiet k at e true)
-          (both_follow (host (suc k) s) _ rest (host_follows (suc k) s _ (tt, host_follows (suc k) t rest h))))
+      (pass (condition k at e) _ (condition_quiet k at e true)
+      (both_follow (host (suc k) s) _ rest (host_follows (suc k) s _ (tt, host_follows (suc k) t rest h))))
   host_follows k (HostFor c s) rest h =
       both_follow (host_counter k c) (host (suc k) s) rest (pass (host_counter k c) _ (header_quiet k c true) (host_follows (suc k) s rest h))
   host_follows k (HostCall c) rest h = call_follows k c rest h
@@ -104,11 +104,27 @@ main_follows m = (
             (
               tt,
               both_follow (argv_marks m.argv_has_brackets) _ []
-                  (pass (argv_marks m.argv_has_brackets) _ (argv_quiet m.argv_has_brackets true)
-                  (tt, (tt, both_follow (hosts 1 m.body) _ []
-                  (hosts_follow 1 m.body _ (tt, (tt,
-                  (tt, (tt, both_follow (return_marks m.returned) _ []
-                  (pass (return_marks m.returned) _ (return_quiet m.returned true) (tt, tt)))))))))),
+                  (pass (argv_marks m.argv_has_brackets) _ (argv_quiet m.argv_has_brackets true) (
+                    tt,
+                    (
+                      tt,
+                      both_follow (hosts 1 m.body) _ []
+                          (hosts_follow 1 m.body _ (
+                            tt,
+                            (
+                              tt,
+                              (
+                                tt,
+                                (
+                                  tt,
+                                  both_follow (return_marks m.returned) _ []
+                                      (pass (return_marks m.returned) _ (return_quiet m.returned true) (tt, tt)),
+                                ),
+                              ),
+                            ),
+                          )),
+                    ),
+                  )),
             ),
           ),
         ),

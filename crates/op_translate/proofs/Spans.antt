@@ -24,8 +24,8 @@ parts_span stop fresh number bs [] n end p h a = omega (arith, h)
 parts_span stop fresh number bs (Passed s ∷ xs) n end p h a =
     let long : length bs ≡ length s + length a.1.0 = ap length a.1.1 ∙ length-append s a.1.0 in
     sooner n (n + length s) end (tokens_of (n + length s) (advance p s) xs) (omega arith)
-        (parts_span stop (is_fresh_behind fresh (Passed s)) (is_number_part (Passed s)) a.1.0 xs (n + length s) end (advance p s)
-        (omega (arith, h, long)) a.1.3)
+    (parts_span stop (is_fresh_behind fresh (Passed s)) (is_number_part (Passed s)) a.1.0 xs (n + length s) end (advance p s)
+    (omega (arith, h, long)) a.1.3)
 parts_span stop fresh number bs (Spelled k s ∷ xs) n end p h a =
     let long : length bs ≡ length s + length a.1.0 = ap length a.1.1 ∙ length-append s a.1.0 in (
       omega arith,

@@ -12,8 +12,8 @@ use crate::laws::one_translation;
 use crate::names::is_stub;
 use crate::refusals::TransRefusal;
 use crate::table::put_table;
-use c_tree::lexer::{Kind, Token};
 use c_tree::Program;
+use c_tree::lexer::{Kind, Token};
 use op_num::OutOfMemory;
 use std::alloc::Global;
 

@@ -1,5 +1,5 @@
 -- Firsts of the numbers that pass a test.
-use Rattle.std.proofs.Common.{◌≡◌, ℕ, ◌<◌, Bool, true, false, ◌&&◌, refl, sym, ◌∙◌}
+use Rattle.std.proofs.Common.{◌≡◌, ℕ, ◌<◌, Bool, true, false, sym, ◌∙◌}
 use Rattle.std.proofs.lemmas.Bool.{false_from_ne_true}
 use Rattle.lemmas.specs.Below.{any_below}
 use Rattle.lemmas.proofs.Below.{any_from}

@@ -82,7 +82,7 @@ unfolding naming_votes is_named
 naming_elected g owners m y ranks r xs e h t =
     let some : 0 < length xs = rw e (gathered_some (entries g m) (names g m y) (λ e. get_or owners (e / map_dim g m) 0) t) in
     elected_agree ranks _ _ r (λ q l. ap (λ (z : List ℕ). count_by (λ x. nat_eq x q) z) e
-        ∙ count_gathered (entries g m) (names g m y) (λ e. get_or owners (e / map_dim g m) 0) (λ x. nat_eq x q)) (h some)
+    ∙ count_gathered (entries g m) (names g m y) (λ e. get_or owners (e / map_dim g m) 0) (λ x. nat_eq x q)) (h some)
 
 pub unnamed_empty : (g : MeshValue) (owners : List ℕ) (m y : ℕ) (xs : List ℕ)
     → xs ≡ gathered (entries g m) (names g m y) (λ e. get_or owners (e / map_dim g m) 0) → is_named g m y ≡ false → length xs ≡ 0

@@ -82,7 +82,7 @@ far_mine : (n ranks : ℕ) (near : ℕ → ℕ → Bool) (i h : ℕ) (order : Li
     → get_or seen y false ≡ false → (j : ℕ) → j < h - s → near (get_or (drop s order) j 0) y ≡ false
 far_mine n ranks near i h order seen s y es g short lh ly f j lj = false_from_ne_true (near (get_or (drop s order) j 0) y) (λ t.
     not_both (get_or seen y false) (g.closed short (s + j) y (subst (λ q. q ≤ s + j) es (omega arith)) (omega (arith, lj))
-        (omega (arith, lj, lh)) ly (subst (λ q. near q y ≡ true) (get_or-drop s order j 0) t)) f)
+    (omega (arith, lj, lh)) ly (subst (λ q. near q y ≡ true) (get_or-drop s order j 0) t)) f)
 
 -- the least element that isn't marked comes next where the rank's elements have no neighbour left
 pub next_start_free : (n ranks : ℕ) (near : ℕ → ℕ → Bool) (i : ℕ) (order : List ℕ) (seen : List Bool) (s z : ℕ) → s ≡ block_start n ranks i
@@ -119,7 +119,7 @@ next_near_free n ranks near i h order seen s k items es w g short sh lh lk lz nz
     let at : get_or mine (h - s) 0 ≡ get_or order h 0 = get_or-drop s order (h - s) 0 ∙ ap (λ q. get_or order q 0) place in
     let lm : h - s < length mine = omega (arith, len, sh, lh) in
     let ez : earliest near mine z ≡ h - s = earliest_is n near mine z (h - s) lm
-        (far_mine n ranks near i h order seen s z es g short (omega (arith, lh)) lz f) (subst (λ q. near q z ≡ true) (sym at) nz) in
+    (far_mine n ranks near i h order seen s z es g short (omega (arith, lh)) lz f) (subst (λ q. near q z ≡ true) (sym at) nz) in
     record {
       within = lz;
       new = untaken n near order seen 0 z w f;

@@ -29,8 +29,8 @@ count_all p xs n e h = ap (count_by p) (sym (take_all n xs (omega (arith, e)))) 
 pub all_once : (xs : List ℕ) (n : ℕ) → length xs ≡ n → ((k : ℕ) → k < n → get_or xs k 0 ≡ k) → (x : ℕ) → count_by (λ y. nat_eq y x) xs ≤ 1
 all_once xs n e h x =
     let a : count_below n (λ y. nat_eq y x) ≡ min n (x + 1) - min n x =
-        interval n x (x + 1) (λ y. nat_eq y x) (λ y l u v. eq-eqb y x (omega arith))
-        (λ y l t. (let q : y ≡ x = eqb-true y x t in (omega (arith, q), omega (arith, q)))) in
+    interval n x (x + 1) (λ y. nat_eq y x) (λ y l u v. eq-eqb y x (omega arith))
+    (λ y l t. (let q : y ≡ x = eqb-true y x t in (omega (arith, q), omega (arith, q)))) in
     rw (count_all (λ y. nat_eq y x) xs n e h) (omega (arith, a))
 
 -- where all pass, or none

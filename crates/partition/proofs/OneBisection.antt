@@ -65,7 +65,7 @@ one_list key (x ∷ xs) [] same h k = let a = once x xs in let b : times x (x �
 one_list key (x ∷ xs) (y ∷ ys) same h k =
     let e : x ≡ y = both_before key x y (first_before key x y xs h (subst (λ z. 0 < z) (sym (same y)) (once y ys))) (first_before key y x ys k (subst (λ z. 0 < z) (same x) (once x xs))) in
     let rest : (z : ℕ) → times z xs ≡ times z ys = λ z. same_rest (cond {A = ℕ} (eqb z x) 1 0) (cond {A = ℕ} (eqb z y) 1 0) (times z xs)
-        (times z ys) (sym (times_more z x xs) ∙ (same z ∙ times_more z y ys)) (ap (λ w. cond {A = ℕ} (eqb z w) 1 0) e) in
+    (times z ys) (sym (times_more z x xs) ∙ (same z ∙ times_more z y ys)) (ap (λ w. cond {A = ℕ} (eqb z w) 1 0) e) in
     let t : xs ≡ ys = one_list key xs ys rest (λ i j m l. h (suc i) (suc j) (omega arith) (omega arith)) (λ i j m l. k (suc i) (suc j) (omega arith) (omega arith)) in
     rw (e, t) refl
 
@@ -89,7 +89,7 @@ module _ (values : List ℤ) (dim : ℕ) where
   same_parts : (ls us cs ds : List ℕ) → ls ++ us ≡ cs ++ ds → length ls ≡ length cs → (ls ≡ cs) × (us ≡ ds)
   same_parts ls us cs ds e l =
       let n : length us ≡ length ds = (let p = length-append ls us in let q = length-append cs ds in
-          let r : length (ls ++ us) ≡ length (cs ++ ds) = ap (λ (z : List ℕ). length z) e in omega arith) in (
+      let r : length (ls ++ us) ≡ length (cs ++ ds) = ap (λ (z : List ℕ). length z) e in omega arith) in (
         ext_get_or 0 ls cs l (λ i li. sym (get_or_append_left ls us 0 i li) ∙ (ap (λ (z : List ℕ). get_or z i 0) e ∙ get_or_append_left cs ds 0 i (omega arith))),
         ext_get_or 0 us ds n (λ i li. sym (get_or-append-add ls us i 0)
             ∙ (ap (λ (z : List ℕ). get_or z (length ls + i) 0) e
@@ -137,7 +137,7 @@ module _ (values : List ℤ) (dim : ℕ) where
       let e = one_cut (block_start n ranks (lo + many / 2) - block_start n ranks lo) xs a.1 a.2 b.1 b.2 a.3 b.3 in
       let low : Agree f h a.1 = one_halving depth other n ranks f h lo (many / 2) a.1 a.4 (subst (λ (z : List ℕ). IsHalved other n ranks values dim h lo (many / 2) z) (sym e.0) b.4) in
       let high : Agree f h a.2 = one_halving depth other n ranks f h (lo + many / 2) (many - many / 2) a.2 a.5
-          (subst (λ (z : List ℕ). IsHalved other n ranks values dim h (lo + many / 2) (many - many / 2) z) (sym e.1) b.5) in
+      (subst (λ (z : List ℕ). IsHalved other n ranks values dim h (lo + many / 2) (many - many / 2) z) (sym e.1) b.5) in
       agree_parts f h xs a.1 a.2 a.3.along.same low high
 
 pub one_bisection : (n ranks : ℕ) (values : List ℤ) (dim : ℕ) (a b : List ℕ) → length a ≡ n → length b ≡ n → IsBisected n ranks values dim a → IsBisected n ranks values dim b → a ≡ b

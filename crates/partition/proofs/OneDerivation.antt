@@ -106,16 +106,20 @@ module _ (g : MeshValue) (ranks : ℕ) (maps : (m : ℕ) → m < map_count g →
     next_agrees o s xs h = ⊎_elim
         (λ (r : IsByTargets g ranks o p s xs). inl (record {
           map = r.map;
-          next = (first_agrees n (can_follow_targets g p) (can_follow_targets g q) s targets_agree r.next.0,
-              first_agrees (map_count g) (leads_to_known g p s) (leads_to_known g q s) r.map (to_agrees s) r.next.1);
+          next = (
+            first_agrees n (can_follow_targets g p) (can_follow_targets g q) s targets_agree r.next.0,
+            first_agrees (map_count g) (leads_to_known g p s) (leads_to_known g q s) r.map (to_agrees s) r.next.1,
+          );
           elected = r.elected;
         }))
         (λ (k : IsByNames g ranks o p s xs ⊎ IsByBlocks g ranks p s xs). inr (⊎_elim
         (λ (r : IsByNames g ranks o p s xs). inl (record {
           none = none_agrees n (can_follow_targets g p) (can_follow_targets g q) targets_agree r.none;
           map = r.map;
-          next = (first_agrees n (can_follow_names g p) (can_follow_names g q) s names_agree r.next.0,
-              first_agrees (map_count g) (leads_from_known g p s) (leads_from_known g q s) r.map (from_agrees s) r.next.1);
+          next = (
+            first_agrees n (can_follow_names g p) (can_follow_names g q) s names_agree r.next.0,
+            first_agrees (map_count g) (leads_from_known g p s) (leads_from_known g q s) r.map (from_agrees s) r.next.1,
+          );
           elected = r.elected;
         }))
         (λ (r : IsByBlocks g ranks p s xs). inr (record {

@@ -155,8 +155,8 @@ turn_step g ranks turn known0 sets0 items known s xs l h choice len below =
     let is : get_or (set known s true) s false ≡ true = get_or-set_same known s true false lk in
     let others : (t : ℕ) → (t ≡ s → ⊥) → get_or (set known s true) t false ≡ get_or known t false = λ t n. get_or-set_other known s t true false n in
     let late : h.at s ≡ set_count g + 1 = ⊎_elim
-        (λ (k : (h.at s ≤ turn) × (get_or known s false ≡ true)). clash (get_or known s false) k.1 was)
-        (λ (k : (h.at s ≡ set_count g + 1) × (get_or known s false ≡ false)). k.0) (h.turns s) in
+    (λ (k : (h.at s ≤ turn) × (get_or known s false ≡ true)). clash (get_or known s false) k.1 was)
+    (λ (k : (h.at s ≡ set_count g + 1) × (get_or known s false ≡ false)). k.0) (h.turns s) in
     let turn' : ℕ → ℕ = λ t. cond (nat_eq t s) (turn + 1) (h.at t) in
     let at_s : turn' s ≡ turn + 1 = rw (eq-eqb s s refl) refl in
     let at_t : (t : ℕ) → (t ≡ s → ⊥) → turn' t ≡ h.at t = λ t n. rw (ne_eqb t s n) refl in
@@ -164,12 +164,12 @@ turn_step g ranks turn known0 sets0 items known s xs l h choice len below =
     let old : ℕ → List ℕ = λ t. get_or items t [] in
     let new : ℕ → List ℕ = λ t. get_or (set items s xs) t [] in
     let soon : (t : ℕ) → get_or known t false ≡ true → h.at t ≤ turn =
-        λ t k. ⊎_elim (λ (a : (h.at t ≤ turn) × (get_or known t false ≡ true)). a.0)
-        (λ (a : (h.at t ≡ set_count g + 1) × (get_or known t false ≡ false)). clash (get_or known t false) k a.1) (h.turns t) in
+    λ t k. ⊎_elim (λ (a : (h.at t ≤ turn) × (get_or known t false ≡ true)). a.0)
+    (λ (a : (h.at t ≡ set_count g + 1) × (get_or known t false ≡ false)). clash (get_or known t false) k a.1) (h.turns t) in
     let not_self : (t : ℕ) → turn' t ≤ turn + 1 → nat_lt (turn' s) (turn' t) ≡ false = λ t a. lt_false (turn' s) (turn' t) (rw at_s a) in
     let same : (t : ℕ) → turn' t ≤ turn + 1 → (u : ℕ) → nat_lt (turn' u) (turn' t) ≡ true → old u ≡ new u =
-        λ t a u b. sym (there u (λ e. clash (nat_lt (turn' u) (turn' t)) b
-        (subst (λ z. nat_lt (turn' z) (turn' t) ≡ false) (sym e) (not_self t a)))) in
+    λ t a u b. sym (there u (λ e. clash (nat_lt (turn' u) (turn' t)) b
+    (subst (λ z. nat_lt (turn' z) (turn' t) ≡ false) (sym e) (not_self t a)))) in
     let agree_s : (u : ℕ) → get_or known u false ≡ nat_lt (turn' u) (turn' s) = λ u. ⊎_elim
     (λ (e : u ≡ s). subst (λ z. get_or known z false ≡ nat_lt (turn' z) (turn' s)) (sym e) (was ∙ sym (lt_false (turn' s) (turn' s) (omega arith))))
     (λ (n : u ≡ s → ⊥). rw (at_t u n, at_s) (⊎_elim
@@ -182,15 +182,15 @@ turn_step g ranks turn known0 sets0 items known s xs l h choice len below =
     (next_kept g ranks old new (λ u. nat_lt (turn' u) (turn' s)) s xs (subst (λ (p : ℕ → Bool). IsNextSet g ranks old p s xs) (fun_ext agree_s) choice) (same s (rw at_s (omega arith)))) in
     let agree_t : (t : ℕ) → (t ≡ s → ⊥) → h.at t ≤ turn → (u : ℕ) → nat_lt (h.at u) (h.at t) ≡ nat_lt (turn' u) (turn' t) = λ t n a u. ⊎_elim
     (λ (e : u ≡ s). subst (λ z. nat_lt (h.at z) (h.at t) ≡ nat_lt (turn' z) (turn' t)) (sym e)
-        (lt_false (h.at s) (h.at t) (omega (arith, late, a, l)) ∙ sym (not_self t (rw (at_t t n) (omega (arith, a))))))
+    (lt_false (h.at s) (h.at t) (omega (arith, late, a, l)) ∙ sym (not_self t (rw (at_t t n) (omega (arith, a))))))
     (λ (m : u ≡ s → ⊥). rw (at_t u m, at_t t n) refl)
     (cases_eq u s) in
     let next_t : (t : ℕ) → (t ≡ s → ⊥) → IsNextSet g ranks old (λ u. nat_lt (h.at u) (h.at t)) t (old t) → h.at t ≤ turn
-        → IsNextSet g ranks new (λ u. nat_lt (turn' u) (turn' t)) t (new t) = λ t n b a.
+    → IsNextSet g ranks new (λ u. nat_lt (turn' u) (turn' t)) t (new t) = λ t n b a.
     subst (λ (z : List ℕ). IsNextSet g ranks new (λ u. nat_lt (turn' u) (turn' t)) t z) (sym (there t n))
     (next_kept g ranks old new (λ u. nat_lt (turn' u) (turn' t)) t (old t)
-        (subst (λ (p : ℕ → Bool). IsNextSet g ranks old p t (old t)) (fun_ext (agree_t t n a)) b)
-        (same t (rw (at_t t n) (omega (arith, a))))) in
+    (subst (λ (p : ℕ → Bool). IsNextSet g ranks old p t (old t)) (fun_ext (agree_t t n a)) b)
+    (same t (rw (at_t t n) (omega (arith, a))))) in
     record {
       facts = record {
         each_set = length-set items s xs ∙ h.facts.each_set;

@@ -9,9 +9,9 @@ mod numbers;
 mod owners;
 mod types;
 
+pub use crate::part_text::PartRefusal;
 pub use distribution::distribute;
 pub use laws::{one_distribution, one_numbers, one_owners};
 pub use numbers::numbers_by;
 pub use owners::owners_by;
-pub use crate::part_text::PartRefusal;
 pub use types::{Distribution, NumbersRefusal, OwnersRefusal, Parts};

@@ -54,7 +54,7 @@ module _ (b : BoundValue) (meshes : List RankMesh) (size s r n : ℕ) (places : 
   front_is : (bs cs : List (List ℕ)) → content (words_of bs cs) ≡ site_front s r n ++ spaced (bs ++ codes "inner" ∷ cs)
   front_is bs cs = subst
       (λ z. content ((codes "site" ∷ decimal s ∷ codes "rank" ∷ decimal r ∷ codes "places" ∷ decimal z ∷ codes "blocks" ∷ bs) ++ codes
-          "inner" ∷ cs) ≡ site_front s r n ++ spaced (bs ++ codes "inner" ∷ cs))
+      "inner" ∷ cs) ≡ site_front s r n ++ spaced (bs ++ codes "inner" ∷ cs))
       places
       (joined_spaced (codes "site") (decimal s ∷ codes "rank" ∷ decimal r ∷ codes "places" ∷ decimal n ∷ codes "blocks" ∷ (bs ++ codes "inner" ∷ cs)) ∙ simp append_assoc)
 

@@ -34,7 +34,7 @@ module _ (b : BoundValue) (meshes : List RankMesh) where
   one_size m n line other rest more s t e =
       let lines = sym (ap (λ z. z ++ rest) s.is) ∙ (e ∙ ap (λ z. z ++ more) t.is) in
       let o = one_front (codes "ranks") (codes "ranks") (decimal (length meshes) ∷ codes "block" ∷ decimal m ∷ [])
-          (decimal (length meshes) ∷ codes "block" ∷ decimal n ∷ []) rest more (sizes_dark m) (sizes_dark n) lines in
+      (decimal (length meshes) ∷ codes "block" ∷ decimal n ∷ []) rest more (sizes_dark m) (sizes_dark n) lines in
       let d : decimal m ≡ decimal n = ap (λ zs. get_or zs 3 []) o.0 in
       let a = s.few in
       let c = t.few in

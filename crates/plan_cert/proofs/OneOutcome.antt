@@ -54,8 +54,8 @@ module _ (b : BoundValue) (meshes : List RankMesh) where
       let n : ℕ = length b.sites in
       let halos : AreEarly (awaited_halos b meshes) = early_below (awaited_set b meshes) (λ s. early_below (λ r. awaited_halo b meshes s r ∷ []) (λ r. (tt, tt)) (length meshes)) (set_count b.mesh) in
       let sites : AreEarly (awaited_sites b meshes n) = early_below (λ s. cond (runs_free b s) (awaited_ranks b meshes s) [])
-          (λ s. early_if (runs_free b s) (awaited_ranks b meshes s) (early_below (λ r. ColoursOf s r ∷ []) (λ r. (tt, tt)) (length meshes)))
-          n in
+      (λ s. early_if (runs_free b s) (awaited_ranks b meshes s) (early_below (λ r. ColoursOf s r ∷ []) (λ r. (tt, tt)) (length meshes)))
+      n in
       let items : AreEarly (awaited_items b meshes) = early_below (λ k. awaited_item b meshes k ∷ []) (λ k. (tt, tt)) (length b.trace) in
       early_append (awaited_halos b meshes) (awaited_sites b meshes n ++ awaited_items b meshes) halos (early_append (awaited_sites b meshes n) (awaited_items b meshes) sites items)
 
@@ -182,8 +182,19 @@ module _ (b : BoundValue) (meshes : List RankMesh) where
       let same : Sizes ≡ h = head_same Sizes h ys t tail in
       let k : Refuses b meshes m Sizes rest number = subst (λ z. Refuses b meshes m z rest number) (sym same) x in
       let fit : FitsLine b meshes m (Exactly 1 header_line) l f.0 = subst (λ z. FitsLine b meshes m z l f.0) (sym first) f.3 in
-      inr (record { lines = l ∷ []; rest = rest; split = e; earlier = Exactly 1 header_line ∷ []; here = Sizes; later = ys; order = refl;
-          colours = f.0 ++ []; fit = (f.0, [], refl, fit, refl); refuses = k; at = a })
+      inr (record {
+        lines = l ∷ [];
+        rest = rest;
+        split = e;
+        earlier = Exactly 1 header_line ∷ [];
+        here = Sizes;
+        later = ys;
+        order = refl;
+        colours = f.0 ++ [];
+        fit = (f.0, [], refl, fit, refl);
+        refuses = k;
+        at = a;
+      })
   sized_by m n bytes number before ys (z ∷ w ∷ v) h t ls rest cs o f e x a =
       let first : Exactly 1 header_line ≡ z = head_same (Exactly 1 header_line) z (Sizes ∷ ys) (w ∷ (v ++ h ∷ t)) o in
       let tail : Sizes ∷ ys ≡ w ∷ (v ++ h ∷ t) = tail_same (Exactly 1 header_line) z (Sizes ∷ ys) (w ∷ (v ++ h ∷ t)) o in
@@ -205,7 +216,7 @@ module _ (b : BoundValue) (meshes : List RankMesh) where
   at_one_size : (size : ℕ) (bytes : List ℕ) (m n k l : ℕ) → Among size bytes m k → Among size bytes n l → (m ≡ n) × (k ≡ l)
   at_one_size size bytes m n k l r s =
       let o = one_by b meshes size r.earlier s.earlier r.here s.here r.later s.later r.lines s.lines r.rest s.rest r.colours s.colours m n
-          (subst Ends r.order ends) (sym r.order ∙ s.order) r.fit s.fit (sym r.split ∙ s.split) r.refuses s.refuses in
+      (subst Ends r.order ends) (sym r.order ∙ s.order) r.fit s.fit (sym r.split ∙ s.split) r.refuses s.refuses in
       (o.0, r.at ∙ (o.1 ∙ sym s.at))
 
   pub one_among : (i j : ℕ) (bytes : List ℕ) (m n k l : ℕ) → Among i bytes m k → Among j bytes n l → (m ≡ n) × (k ≡ l)

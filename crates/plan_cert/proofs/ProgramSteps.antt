@@ -1,6 +1,5 @@
 -- A plan has as many steps as its program.
 use Rattle.std.proofs.Common.{◌≡◌, ℕ, ◌+◌, ◌*◌, ◌<◌, Bool, true, false, cond, sum, refl, sym, ap, ◌∙◌, List, length, slice_index}
-use Rattle.std.specs.Prelude.{◌&&◌}
 use Rattle.lemmas.proofs.Below.{listed_agree}
 use Rattle.mesh_decl.specs.Mesh.{dat_count}
 use Rattle.schedule_model.proofs.Public.{by_bit}

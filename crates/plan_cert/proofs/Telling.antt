@@ -1,6 +1,6 @@
 -- Colours as words: there is one way to read them.
 use Rattle.std.proofs.Common.{◌≡◌, ℕ, ◌<◌, ◌^◌, true, false, refl, sym, ap, subst, ◌∙◌, arith, List, [], ◌∷◌, ◌++◌, append-nil, length, length-append, Vec, Bor, MatchOption, Option, Some, None}
-use Rattle.std.specs.Prelude.{◌↔◌, codes}
+use Rattle.std.specs.Prelude.{codes}
 use Rattle.std.specs.Option.{is_some}
 use Rattle.std.specs.declared.alloc.Global.{Global}
 use Rattle.std.specs.List.{join_with_byte}
@@ -109,8 +109,8 @@ pub line_cut : (front line behind : List ℕ) (blocks places : ℕ) (bs cs : Lis
 line_cut front line behind blocks places bs cs e t =
     let is : behind ≡ spaced (t.block_words ++ codes "inner" ∷ t.inner_words) = append_cancel_left front behind (spaced (t.block_words ++ codes "inner" ∷ t.inner_words)) (sym e ∙ t.is) in
     ap words is ∙ spaced_cut (t.block_words ++ codes "inner" ∷ t.inner_words)
-        (dark_append t.block_words (codes "inner" ∷ t.inner_words) (colours_dark t.block_words bs t.are_blocks)
-        (refl, colours_dark t.inner_words cs t.are_inner))
+    (dark_append t.block_words (codes "inner" ∷ t.inner_words) (colours_dark t.block_words bs t.are_blocks)
+    (refl, colours_dark t.inner_words cs t.are_inner))
 
 -- whether a word is left
 abbrev NextIs : List (List ℕ) → List (List ℕ) → Option (Bor (List ℕ)) → Type 0

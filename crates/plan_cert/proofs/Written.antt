@@ -55,8 +55,8 @@ module _ (b : BoundValue) (meshes : List RankMesh) (p : PlanValue) (proper : Pro
       all_append (below set_lines n) (set_lines n)
       ∙ (ap (λ z. z ++ all (set_lines n)) (halos_text n)
       ∙ (ap (λ z. text_of_lines (all_halo_lines b.mesh meshes n) ++ z)
-          (set_text n (length meshes) (omega arith) ∙ ap (λ z. text_of_lines (halo_lines b.mesh n 0 z))
-          (take_all (length meshes) meshes (omega arith)))
+      (set_text n (length meshes) (omega arith) ∙ ap (λ z. text_of_lines (halo_lines b.mesh n 0 z))
+      (take_all (length meshes) meshes (omega arith)))
       ∙ sym (flat_map-append line_of (all_halo_lines b.mesh meshes n) (halo_lines b.mesh n 0 meshes))))
 
   halos_fit : FitLines b meshes p.block (awaited_halos b meshes) (below set_lines (set_count b.mesh)) []
@@ -171,7 +171,7 @@ module _ (b : BoundValue) (meshes : List RankMesh) (p : PlanValue) (proper : Pro
           let x = loop.places_count in
           let y = loop.colours_count in
           sites_more s k (site_plan p s).places (site_plan p s).colours d (get_or (site_plan p s).colours k d) []
-              (all (below (λ r. site_line_at s r ∷ []) k)) (all (below (λ r. site_line_at s r ∷ []) (suc k)))
+          (all (below (λ r. site_line_at s r ∷ []) k)) (all (below (λ r. site_line_at s r ∷ []) (suc k)))
           (omega arith) (omega arith) refl (loop_text k (omega arith))
           (one_more (below (λ r. site_line_at s r ∷ []) k) (site_line_at s k) ∙ ap (λ z. all (below (λ r. site_line_at s r ∷ []) k) ++ z) (line_is k d (omega arith)))
           ∙ ap (λ z. text_of_lines (site_lines s 0 (take z (site_plan p s).places) (take z (site_plan p s).colours))) e
@@ -203,7 +203,7 @@ module _ (b : BoundValue) (meshes : List RankMesh) (p : PlanValue) (proper : Pro
 
     fit_by : (s : ℕ) → s < length b.sites → (t : Bool) → runs_free b s ≡ t
         → FitLines b meshes p.block (cond t (awaited_ranks b meshes s) []) (cond t (below (λ r. site_line_at s r ∷ []) (length meshes)) [])
-            (cond t (below (λ r. colours_at s r ∷ []) (length meshes)) [])
+        (cond t (below (λ r. colours_at s r ∷ []) (length meshes)) [])
     fit_by s l true e = loop_fit s l e
     fit_by s l false e = refl
 
@@ -265,8 +265,8 @@ module _ (b : BoundValue) (meshes : List RankMesh) (p : PlanValue) (proper : Pro
           flat_map-append line_of s (i ++ last) ∙ (ap (λ z. z ++ text_of_lines (i ++ last)) sites_text ∙ (ap (λ z. all sites ++ z) end ∙ sym (all_append sites (items ++ done_line ∷ [])))) in
           let rest : text_of_lines (h ++ (s ++ (i ++ last))) ≡ all (halos ++ (sites ++ (items ++ done_line ∷ []))) =
           flat_map-append line_of h (s ++ (i ++ last)) ∙
-              (ap (λ z. z ++ text_of_lines (s ++ (i ++ last))) (sym (halos_text (set_count b.mesh)))
-              ∙ (ap (λ z. all halos ++ z) more ∙ sym (all_append halos (sites ++ (items ++ done_line ∷ []))))) in
+          (ap (λ z. z ++ text_of_lines (s ++ (i ++ last))) (sym (halos_text (set_count b.mesh)))
+          ∙ (ap (λ z. all halos ++ z) more ∙ sym (all_append halos (sites ++ (items ++ done_line ∷ []))))) in
           ap (λ z. header_line ++ (sizes_at ++ z)) (ap text_of_lines (append_assoc (h ++ s) i last ∙ append_assoc h s (i ++ last)) ∙ rest)
 
       lines_fit : FitLines b meshes p.block (awaited b meshes) lines (colours_in p.sites)
@@ -275,13 +275,16 @@ module _ (b : BoundValue) (meshes : List RankMesh) (p : PlanValue) (proper : Pro
           let last : FitLines b meshes p.block (Done ∷ []) (done_line ∷ []) [] = fits_line b meshes p.block Done done_line [] (refl, refl) in
           let end = fit_append b meshes p.block (awaited_items b meshes) (Done ∷ []) items (done_line ∷ []) [] [] items_fit last in
           let more = fit_append b meshes p.block (awaited_sites b meshes (length b.sites)) (awaited_items b meshes ++ Done ∷ []) sites
-              (items ++ done_line ∷ []) (below site_colours_at (length b.sites)) [] sites_fit end in
+          (items ++ done_line ∷ []) (below site_colours_at (length b.sites)) [] sites_fit end in
           let rest = fit_append b meshes p.block (awaited_halos b meshes)
-              (awaited_sites b meshes (length b.sites) ++ (awaited_items b meshes ++ Done ∷ [])) halos (sites ++ (items ++ done_line ∷ []))
-              [] (below site_colours_at (length b.sites) ++ []) halos_fit more in
-          let sizes : IsSizes b meshes p.block sizes_at = record
-              { some = proper.block; few = few; is = ap (λ z. line_of (codes "ranks" ∷ decimal z ∷ codes "block" ∷ decimal p.block ∷ []))
-              proper.ranks } in
+          (awaited_sites b meshes (length b.sites) ++ (awaited_items b meshes ++ Done ∷ [])) halos (sites ++ (items ++ done_line ∷ []))
+          [] (below site_colours_at (length b.sites) ++ []) halos_fit more in
+          let sizes : IsSizes b meshes p.block sizes_at = record {
+            some = proper.block;
+            few = few;
+            is = ap (λ z. line_of (codes "ranks" ∷ decimal z ∷ codes "block" ∷ decimal p.block ∷ []))
+                proper.ranks;
+          } in
           subst (FitLines b meshes p.block (awaited b meshes) lines) (append-nil (below site_colours_at (length b.sites)) ∙ sym sites_colours)
           ([], below site_colours_at (length b.sites) ++ [], refl, (refl, refl), ([], below site_colours_at (length b.sites) ++ [], refl, (sizes, refl), rest))
 

@@ -15,8 +15,8 @@ use bound_program::Bound;
 use local_mesh::RankMesh;
 use local_mesh::halo_lists::Halos;
 use loop_plan::{MAX_STEPS, Plan, number_of_steps, planned_items};
-use std::alloc::Global;
 use op_num::texts::line_texts::Lines;
+use std::alloc::Global;
 
 /// The plan that the plan text `bytes` gives for a program on these ranks: its block size and its colours are those of
 /// the text, whoever chose them. All else in the text must be what `write_plan` writes for the program.

@@ -18,9 +18,9 @@ use crate::types::CertRefusal;
 use bound_program::Bound;
 use local_mesh::{LocalSet, RankMesh};
 use loop_plan::{ItemPlan, put_item_at, put_rank_halo};
+use op_num::texts::line_texts::Lines;
 use op_num::{OutOfMemory, put_u64, read_u64};
 use std::alloc::Global;
-use op_num::texts::line_texts::Lines;
 
 /// Takes the first line, which says that the text is a plan; `Header` where another stands there.
 pub fn take_header(lines: &mut Lines) -> Result<(), CertRefusal>

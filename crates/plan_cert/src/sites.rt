@@ -22,9 +22,9 @@ use colouring::block_plan::count;
 use colouring::{Clash, Colours, IncArg, find_clash};
 use local_mesh::RankMesh;
 use loop_plan::{SitePlan, SitePlans, args_of, places_by_rank, reducing_args, running_loops};
+use op_num::texts::line_texts::Lines;
 use op_num::{OutOfMemory, put_u64};
 use std::alloc::Global;
-use op_num::texts::line_texts::Lines;
 
 // Appends what stands in front of a loop's colours on a rank.
 fn put_site_front(text: &mut Vec<u8>, site: u32, rank: u32, places: u32) -> Result<(), OutOfMemory>

@@ -4,9 +4,9 @@ ghost use Rattle.op_num.specs.Spelling.{number_of};
 ghost use Rattle.plan_cert.specs.Told.{ToldIs, LineIs};
 
 use colouring::Colours;
+use op_num::texts::line_texts::Words;
 use op_num::{OutOfMemory, read_u64};
 use std::alloc::Global;
-use op_num::texts::line_texts::Words;
 
 // The colour that a word spells: digits with a value below 2 ^ 32.
 fn told_colour(word: &[u8]) -> Option<u32>

@@ -62,9 +62,12 @@ module _ {F : Type 0} (p : Setup F) (l : Layout F) (t : Tables) (k r : ℕ) wher
       let left : 1 ≤ st.frames.left = now.3 in
       let are = have x now.0.0 in
       let new : State F = passed (p.owner (p.program.set k) (l.original k r x) == r) k r (l.original k r x) are.0 are.1
-      (l.core k (l.original k r x) (values_at st.variables t.constants) (windows_of st r are.0 are.1)) st in
-      (new, pair_done places i lt old st new before.1 (λ f shows. law x now.0.0 are.0 are.1 are.2 st f shows now.1.0 (omega (arith, left)))
-          (refl {a = st.mail.left}) (refl {a = st.frames.left}), before.2)
+      (l.core k (l.original k r x) (values_at st.variables t.constants) (windows_of st r are.0 are.1)) st in (
+        new,
+        pair_done places i lt old st new before.1 (λ f shows. law x now.0.0 are.0 are.1 are.2 st f shows now.1.0 (omega (arith, left)))
+            (refl {a = st.mail.left}) (refl {a = st.frames.left}),
+        before.2,
+      )
 
   -- so each of them is a step
   pub all_begin : PairsShow p l t k r → AreWindowed → (places : List ℕ) (old : State F) → ComeReady p l t (alone k r places) old → AllBegin p l t k r places

@@ -69,7 +69,7 @@ rows_length b s d x (suc n) =
     ap length (map-append s (row_cells b d x) (flat_map (row_cells b d) (range_with_len (x + 1) n)))
     ∙ length-append (map s (row_cells b d x)) (map s (flat_map (row_cells b d) (range_with_len (x + 1) n)))
     ∙ (let one : length (map s (row_cells b d x)) ≡ dat_dim b.mesh d = length-map (row_cells b d x) s
-        ∙ length-map-range_with_len (λ i. Data (record { dat = d; element = x; component = i })) 0 (dat_dim b.mesh d) in
+    ∙ length-map-range_with_len (λ i. Data (record { dat = d; element = x; component = i })) 0 (dat_dim b.mesh d) in
     let rest : length (map s (flat_map (row_cells b d) (range_with_len (x + 1) n))) ≡ n * dat_dim b.mesh d = rows_length b s d (x + 1) n in omega (arith, one, rest))
 
 pub dat_length : (b : BoundValue) (s : Store) (d : ℕ) → length (map s (dat_cells b d)) ≡ set_size b.mesh (dat_set b.mesh d) * dat_dim b.mesh d

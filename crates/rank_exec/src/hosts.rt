@@ -16,12 +16,12 @@ ghost use Rattle.rank_program.specs.Sound.{Sound, program_in, setup_in, layout_i
 
 use crate::standing::standing_cells;
 use bound_program::{Act, ToldAct};
-use run_model::gather::host_acts::Variables;
 use kernel_model::types::KernelFault;
 use op_num::{OutOfMemory, Text};
 use rank_machine::machine::Machine;
 use rank_program::{DistributedProgram, owners_copy};
 use rank_state::rank_memory::stop::Stop;
+use run_model::gather::host_acts::Variables;
 use std::alloc::Global;
 
 // Appends the values of an element of a dat, from its owner.

@@ -284,8 +284,8 @@ module _ (b : BoundValue) (s : ℕ) (ls : s < length b.sites) (apart : AllApart 
             let c = variable_at b j in
             let v = is_variable b j lj in
             let how_is : reduced_by args c.variable ≡ Some o = sym
-                (cond-true (nat_lt c.component (var_width b c.variable)) (reduced_by args c.variable) None
-                (lt-ltb c.component (var_width b c.variable) v.1)) ∙ h in
+            (cond-true (nat_lt c.component (var_width b c.variable)) (reduced_by args c.variable) None
+            (lt-ltb c.component (var_width b c.variable) v.1)) ∙ h in
             subst (λ z. has_index z scalars ≡ true) v.2
             (so.held c.variable c.component (ap (names c.variable) whole ∙ reduced_named args c.variable o how_is) v.1);
       }

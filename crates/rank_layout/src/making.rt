@@ -16,10 +16,10 @@ use crate::tables::MachineTables;
 use crate::widths::stride;
 use crate::write_table::loop_writes;
 use bound_program::Bound;
-use run_model::gather::host_acts::variable_starts;
 use loop_plan::Plan;
 use mesh_decl::Owners;
 use op_num::OutOfMemory;
+use run_model::gather::host_acts::variable_starts;
 use std::alloc::Global;
 
 impl MachineTables {

@@ -200,15 +200,15 @@ module _ (c : DistributedProgram) (k : ℕ) (vs : List ℤ) (ls : List (Vec ℕ 
             let ran : RanOn c k vs ls (0 + r) (get_or (lent ms ps xs) r d) (get_or ys r d) = made_at (RanOn c k vs ls) 0 (lent ms ps xs) ys made r d d (omega (arith, here, lent_many)) in
             let none : 0 + r ≡ r = omega arith in
             let it : RanOn c k vs ls r (with_parts x (get_or ms r d.memory) (get_or ps r d.partials)) (get_or ys r d) =
-                subst (λ (z : RankPart). RanOn c k vs ls r z (get_or ys r d)) part
-                (subst (λ n. RanOn c k vs ls n (get_or (lent ms ps xs) r d) (get_or ys r d)) none ran) in
+            subst (λ (z : RankPart). RanOn c k vs ls r z (get_or ys r d)) part
+            (subst (λ n. RanOn c k vs ls n (get_or (lent ms ps xs) r d) (get_or ys r d)) none ran) in
             let share : (cells amounts : List ℤ) → cells ≡ row st.memories r → amounts ≡ row st.partials r
-                → whole x.room.constants.items vs (record { cells = cells; partials = amounts; fault = None }) (share_in (get_or ys r d))
-                → whole x.room.constants.items vs (share_of r st) (share_in (get_or ys r d)) =
+            → whole x.room.constants.items vs (record { cells = cells; partials = amounts; fault = None }) (share_in (get_or ys r d))
+            → whole x.room.constants.items vs (share_of r st) (share_in (get_or ys r d)) =
             λ cells amounts a b h. subst (λ z. whole x.room.constants.items vs
-                (record { cells = row st.memories r; partials = z; fault = None }) (share_in (get_or ys r d))) b
-                (subst (λ z. whole x.room.constants.items vs (record { cells = z; partials = amounts; fault = None })
-                (share_in (get_or ys r d))) a h) in
+            (record { cells = row st.memories r; partials = z; fault = None }) (share_in (get_or ys r d))) b
+            (subst (λ z. whole x.room.constants.items vs (record { cells = z; partials = amounts; fault = None })
+            (share_in (get_or ys r d))) a h) in
             let first : whole x.room.constants.items vs (share_of r st) (share_in (get_or ys r d)) =
             share (get_or ms r d.memory).items (get_or ps r d.partials).items (memory_at r d.memory here) (partials_at r d.partials here) it.reaches in
             subst (whole (values_at st.variables t.constants) st.variables (share_of r st)) (sym (get_or-map share_in ys r d (record { cells = []; partials = []; fault = None }) there))

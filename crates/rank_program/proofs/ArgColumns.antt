@@ -70,8 +70,8 @@ module _ (args : List Arg) (locals : List (Option LocalArg)) (Begins : ℕ → T
         ap (λ n. column_at row (n + i)) from ∙ has.are i below in
         let lead : local_in (way_of row c) x ≡ local_in y.via x =
         ap (λ (r : RowColumn). local_in (get_or row.ways.now r.way None) x) at
-            ∙ its.way_leads args locals Begins width base_of dim_of reach row numbers places all tables b z q x begins ∙ q.leads x begins
-            ∙ ap (reach x) both.1 ∙ sym (p.leads x begins) in
+        ∙ its.way_leads args locals Begins width base_of dim_of reach row numbers places all tables b z q x begins ∙ q.leads x begins
+        ∙ ap (reach x) both.1 ∙ sym (p.leads x begins) in
         let cell : (column_at row c).cell ≡ z.base + i = ap (λ (r : RowColumn). r.cell) at in
         let product : local_in (way_of row c) x * (column_at row c).dim ≡ local_in y.via x * y.dim = ap₂ (λ n k. n * k) lead (ap (λ (r : RowColumn). r.dim) at ∙ sym dim) in
         let inside = has.inside in

@@ -280,7 +280,7 @@ module _ (c : DistributedProgram) (sound : Sound c) (stand : StepsStand) (k r x 
                 (subst (λ args. Marked (λ i. modifies args (cell_at c.meshes.now b.mesh r i).dat) spans) (args_are b k begun.free) are.writes))
                 (scalars_marked (λ i. is_changed site.args (cell i)) width scalars
                 (λ i le lt. ap (is_changed site.args) (in_tail width (cell_at c.meshes.now b.mesh r) vs i le)
-                    ∙ scalars_changed (cell_at c.meshes.now b.mesh r) spans (variable_at b) scalars site.args (i - width)))
+                ∙ scalars_changed (cell_at c.meshes.now b.mesh r) spans (variable_at b) scalars site.args (i - width)))
 
             one : (i j : ℕ) → i < width + length vs → j < width + length vs → cell i ≡ cell j → i ≡ j
             one = one_index width (cell_at c.meshes.now b.mesh r) vs (place_of c.meshes.now b.mesh r) (λ i lt. sound.indexed.place_at r i begun.rank lt)

@@ -72,7 +72,7 @@ module _ (args : List Arg) (locals : List (Option LocalArg)) (Begins : ℕ → T
     pub cell_is : (x : ℕ) → Begins x → column_cell row x c ≡ o.local.base + local_in o.local.via x * o.local.dim + o.component
     cell_is x begins =
         let lead : local_in (way_of row c) x ≡ local_in o.local.via x = ap (λ v. local_in v x) way_is
-            ∙ its.way_leads args locals Begins width base_of dim_of reach row numbers places all tables o.arg o.local o.on x begins in
+        ∙ its.way_leads args locals Begins width base_of dim_of reach row numbers places all tables o.arg o.local o.on x begins in
         let cell : (column_at row c).cell ≡ o.local.base + o.component = ap (λ (q : RowColumn). q.cell) o.is in
         let product : local_in (way_of row c) x * (column_at row c).dim ≡ local_in o.local.via x * o.local.dim =
         ap₂ (λ n d. n * d) lead (ap (λ (q : RowColumn). q.dim) o.is) in

@@ -2,6 +2,5 @@
 
 -- A run of an element on its rank is its begin and its own end at once.
 pub use Rattle.rank_program.proofs.AloneRuns.{PairsShow, unchanged, run_passes}
-
 -- Elements that run from no fault on run alike from a kept one.
 pub use Rattle.rank_program.proofs.FromNone.{of_reach, from_none, of_both}

@@ -330,11 +330,11 @@ module _ (l : LocalLoop) (sound : Sound l.program.now) (is : IsLocalLoop l) (sta
             inr (apart args locals (BeginsAt l) m.cells base_of dim_of reach row numbers places are_on tables k d o q ne modifies (record { dat = dat; component = same })))
             (λ (other : o.component ≡ q.component → ⊥). inl (λ i r li lr cell.
             other (meets args locals (BeginsAt l) m.cells base_of dim_of reach row numbers places are_on tables k d o q
-                (slice_index batch i) (slice_index batch r) (begin i li) (begin r lr) cell).component))
+            (slice_index batch i) (slice_index batch r) (begin i li) (begin r lr) cell).component))
             (cases_eq o.component q.component))
             (λ (other : o.on.dat ≡ q.on.dat → ⊥). inl (λ i r li lr cell.
             other (meets args locals (BeginsAt l) m.cells base_of dim_of reach row numbers places are_on tables k d o q
-                (slice_index batch i) (slice_index batch r) (begin i li) (begin r lr) cell).dat))
+            (slice_index batch i) (slice_index batch r) (begin i li) (begin r lr) cell).dat))
             (cases_eq o.on.dat q.on.dat)
 
         pub in_rows : c.obeying ≡ true → RunsInRows row m.cells modes standing batch rows

@@ -14,9 +14,9 @@ use crate::room::{KernelRoom, MOST_COLUMNS};
 use crate::row_loops::{LoopInRows, MOST_PAIRS, no_column, row_loop};
 use crate::share::RankShare;
 use kernel_columns::ROWS;
+use kernel_model::types::views::Place;
 use kernel_runs::row_batches::{FEWEST, RowRoom, batch_at, run_batch};
 use kernel_runs::worker_batches::AtOnce;
-use kernel_model::types::views::Place;
 use rank_layout::{MAX_ARGS, element_windows_stand, steps_stand, windows_stand};
 
 // Runs the kernel of a loop for elements at its places from `at` on at once: for as many of so many, at most 64, as run

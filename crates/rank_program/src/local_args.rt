@@ -5,9 +5,9 @@ ghost use Rattle.rank_layout.specs.DatWindows.{ArgHere, ViaHere};
 ghost use Rattle.rank_program.specs.LocalArgs.{CountsCells, IsVia, IsArg, AreArgs, place_in, places_in};
 
 use bound_program::Arg;
+use kernel_model::types::views::Place;
 use kernel_runs::row_batches::batch_tables::LocalArg;
 use kernel_runs::row_batches::{LocalVia, local_number};
-use kernel_model::types::views::Place;
 use local_mesh::RankMesh;
 use mesh_decl::{Mesh, Via};
 use rank_layout::targets_of;

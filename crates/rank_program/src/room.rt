@@ -5,9 +5,9 @@ ghost use Rattle.rank_program.specs.Rooms.{HasKernelRoom, HasRoomOf};
 ghost use Rattle.rank_program.specs.Sound.{Sound};
 
 use crate::program::DistributedProgram;
+use kernel_model::types::views::Place;
 use kernel_runs::row_batches::RowRoom;
 use kernel_runs::worker_batches::BatchesRoom;
-use kernel_model::types::views::Place;
 use rank_state::{Owned, Span};
 use std::alloc::{AllocError, Global};
 

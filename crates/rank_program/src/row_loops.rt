@@ -11,11 +11,11 @@ use crate::program::DistributedProgram;
 use crate::room::MOST_COLUMNS;
 use bound_program::Item;
 use kernel_code::Code;
+use kernel_model::types::views::Place;
 use kernel_runs::row_batches::batch_tables::{
     put_columns, put_pairs, put_scalars, put_ways, stores,
 };
 use kernel_runs::row_batches::{LocalVia, RowColumn, RowLoop};
-use kernel_model::types::views::Place;
 use op_num::reductions::Access;
 use rank_layout::{MAX_ARGS, element_windows_stand, steps_stand, windows_stand};
 

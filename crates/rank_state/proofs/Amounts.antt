@@ -48,11 +48,11 @@ module _ {F : Type 0} (p : Setup F) (l : Layout F) (t : Tables) (k : ℕ) where
   slot_among i (x ∷ xs) h e = ⊎_elim
       (λ (y : is_slot i x ≡ true).
       let same : same_cell (Variable (l.variable_at (index x))) (Variable (t.reduced_at i)) ≡ true =
-          ap (λ z. same_cell (Variable (l.variable_at (index x))) (Variable z)) (cell_is i x h.0 y)
-          ∙ same_cell_refl (Variable (l.variable_at (index x))) in
+      ap (λ z. same_cell (Variable (l.variable_at (index x))) (Variable z)) (cell_is i x h.0 y)
+      ∙ same_cell_refl (Variable (l.variable_at (index x))) in
       or_left (same_cell (Variable (l.variable_at (index x))) (Variable (t.reduced_at i))) (among (scalar_cells l.variable_at xs) (Variable (t.reduced_at i))) same)
       (λ (y : has_slot i xs ≡ true). or_right (same_cell (Variable (l.variable_at (index x))) (Variable (t.reduced_at i)))
-          (among (scalar_cells l.variable_at xs) (Variable (t.reduced_at i))) (slot_among i xs h.1 y))
+      (among (scalar_cells l.variable_at xs) (Variable (t.reduced_at i))) (slot_among i xs h.1 y))
       (or_cases (is_slot i x) (has_slot i xs) e)
 
   -- a slot is one of the item's loop
@@ -79,22 +79,22 @@ module _ {F : Type 0} (p : Setup F) (l : Layout F) (t : Tables) (k : ℕ) where
   -- a slot of the loop
   pub amounts_here : (i : ℕ) (xs : List Scalar) (ws ps : List ℤ) → i < length ps → length xs ≤ length ws → AreScalars p l t k xs → Once (scalar_cells l.variable_at xs) → has_slot i xs ≡ true
       → get_or (amounts xs ws ps) i (pos 0) ≡ merge_at (p.reduces (p.program.site k) (t.reduced_at i)) (get_or ps i (pos 0))
-          (lookup (scalar_cells l.variable_at xs) ws (Variable (t.reduced_at i)) (pos 0))
+      (lookup (scalar_cells l.variable_at xs) ws (Variable (t.reduced_at i)) (pos 0))
   amounts_here i [] ws ps lt room h once e = absurd (false≢true e)
   amounts_here i (x ∷ xs) [] ps lt room h once e = absurd (omega arith)
   amounts_here i (x ∷ xs) (w ∷ ws) ps lt room h once e = ⊎_elim
       (λ (y : is_slot i x ≡ true).
       let same : same_cell (Variable (l.variable_at (index x))) (Variable (t.reduced_at i)) ≡ true =
-          ap (λ z. same_cell (Variable (l.variable_at (index x))) (Variable z)) (cell_is i x h.0 y)
-          ∙ same_cell_refl (Variable (l.variable_at (index x))) in
+      ap (λ z. same_cell (Variable (l.variable_at (index x))) (Variable z)) (cell_is i x h.0 y)
+      ∙ same_cell_refl (Variable (l.variable_at (index x))) in
       let rest : has_slot i xs ≡ false = false_from_ne_true (has_slot i xs)
-          (λ z. false≢true (sym once.0 ∙ (ap (λ c. among (scalar_cells l.variable_at xs) (Variable c)) (sym (cell_is i x h.0 y))
-          ∙ slot_among i xs h.1 z))) in
+      (λ z. false≢true (sym once.0 ∙ (ap (λ c. among (scalar_cells l.variable_at xs) (Variable c)) (sym (cell_is i x h.0 y))
+      ∙ slot_among i xs h.1 z))) in
       amounts_other i xs ws (amount x w ps) rest
       ∙ (amount_here i x w ps lt h.0 y
       ∙ ap (merge_at (p.reduces (p.program.site k) (t.reduced_at i)) (get_or ps i (pos 0)))
-          (sym (cond-true (same_cell (Variable (l.variable_at (index x))) (Variable (t.reduced_at i))) w
-          (lookup (scalar_cells l.variable_at xs) ws (Variable (t.reduced_at i)) (pos 0)) same))))
+      (sym (cond-true (same_cell (Variable (l.variable_at (index x))) (Variable (t.reduced_at i))) w
+      (lookup (scalar_cells l.variable_at xs) ws (Variable (t.reduced_at i)) (pos 0)) same))))
       (λ (y : is_slot i x ≡ false).
       let rest : has_slot i xs ≡ true = ⊎_elim (λ z. absurd (false≢true (sym y ∙ z))) (λ z. z) (or_cases (is_slot i x) (has_slot i xs) e) in
       let other : same_cell (Variable (l.variable_at (index x))) (Variable (t.reduced_at i)) ≡ false = false_from_ne_true (same_cell (Variable (l.variable_at (index x))) (Variable (t.reduced_at i)))
@@ -102,8 +102,8 @@ module _ {F : Type 0} (p : Setup F) (l : Layout F) (t : Tables) (k : ℕ) where
       amounts_here i xs ws (amount x w ps) (omega (arith, amount_length x w ps)) (omega arith) h.1 once.1 rest
       ∙ (ap (λ z. merge_at (p.reduces (p.program.site k) (t.reduced_at i)) z (lookup (scalar_cells l.variable_at xs) ws (Variable (t.reduced_at i)) (pos 0))) (amount_other i x w ps y)
       ∙ ap (merge_at (p.reduces (p.program.site k) (t.reduced_at i)) (get_or ps i (pos 0)))
-          (sym (cond-false (same_cell (Variable (l.variable_at (index x))) (Variable (t.reduced_at i))) w
-          (lookup (scalar_cells l.variable_at xs) ws (Variable (t.reduced_at i)) (pos 0)) other))))
+      (sym (cond-false (same_cell (Variable (l.variable_at (index x))) (Variable (t.reduced_at i))) w
+      (lookup (scalar_cells l.variable_at xs) ws (Variable (t.reduced_at i)) (pos 0)) other))))
       (cases_Bool (is_slot i x))
 
 -- ---- the scalars behind the spans

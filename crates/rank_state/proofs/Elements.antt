@@ -31,9 +31,9 @@ gather_range cell_at value m at (suc n) h v =
     ap (take (suc n)) (drop-cons m at (pos 0) (omega arith))
     ∙ (ap (λ x. x ∷ take n (drop (suc at) m)) (sym here)
     ∙ ap (λ xs. value (Data (cell_at at)) ∷ xs)
-        (gather_range cell_at value m (suc at) n (omega arith)
-        (λ j lt. (let e : at + suc j ≡ suc at + j = omega arith in
-        subst (λ i. value (Data (cell_at i)) ≡ get_or m i (pos 0)) e (v (suc j) (omega arith))))))
+    (gather_range cell_at value m (suc at) n (omega arith)
+    (λ j lt. (let e : at + suc j ≡ suc at + j = omega arith in
+    subst (λ i. value (Data (cell_at i)) ≡ get_or m i (pos 0)) e (v (suc j) (omega arith))))))
 
 lookup_none : (xs : List Cell) (ws : List ℤ) (c : Cell) (d : ℤ) → among xs c ≡ false → lookup xs ws c d ≡ d
 lookup_none [] ws c d h = refl
@@ -68,7 +68,7 @@ pub owned_length : (cell_at : ℕ → ℕ → DatCell) (ss : List Owned) (xs : L
 owned_length cell_at [] xs = omega arith
 owned_length cell_at (s ∷ ss) xs =
     let e : length (cells_from (cell_at s.rank) s.at s.dim ++ (owned_cells cell_at ss ++ xs)) ≡ s.dim + length
-        (owned_cells cell_at ss ++ xs) = cells_length (cell_at s.rank) s.at s.dim (owned_cells cell_at ss ++ xs) in
+    (owned_cells cell_at ss ++ xs) = cells_length (cell_at s.rank) s.at s.dim (owned_cells cell_at ss ++ xs) in
     let i : length (owned_cells cell_at ss ++ xs) ≡ total_all ss + length xs = owned_length cell_at ss xs in
     ap length (append_assoc (cells_from (cell_at s.rank) s.at s.dim) (owned_cells cell_at ss) xs) ∙ omega arith
 
@@ -91,8 +91,8 @@ module _ {F : Type 0} (p : Setup F) (l : Layout F) (t : Tables) (q : Indexed p l
   gathers (s ∷ ss) own =
       ap₂ (λ a b. a ++ b)
       (gather_range (l.cell_at s.rank) (owned p l f) (get_or st.memories s.rank []) s.at s.dim
-          (let w : length (get_or st.memories s.rank []) ≡ l.width s.rank = h.sized.widths s.rank own.0 in omega (arith, own.1))
-          (λ j lt. owned_at s.rank (s.at + j) own.0 (omega (arith, own.1)) (own.2 j lt)))
+      (let w : length (get_or st.memories s.rank []) ≡ l.width s.rank = h.sized.widths s.rank own.0 in omega (arith, own.1))
+      (λ j lt. owned_at s.rank (s.at + j) own.0 (omega (arith, own.1)) (own.2 j lt)))
       (gathers ss own.3)
       ∙ sym (map-append (owned p l f) (cells_from (l.cell_at s.rank) s.at s.dim) (owned_cells l.cell_at ss))
 
@@ -158,14 +158,14 @@ module _ {F : Type 0} (p : Setup F) (l : Layout F) (t : Tables) (q : Indexed p l
         };
         memories = ext_get_or [] (scattered_all 0 ws ss st.memories) (updated_rows there 0 st.memories) (wide.0 ∙ (sym h.sized.ranks ∙ sym (rows_length there 0 st.memories)))
             (λ r rl. row_looked_up p l t q law r ss is (l.cells k e) ws st.memories wide_is
-                (let n : length (scattered_all 0 ws ss st.memories) ≡ p.ranks = wide.0 in omega arith) g.owned room g.cells g.once
-                ∙ sym (rows_at there st.memories r))
+            (let n : length (scattered_all 0 ws ss st.memories) ≡ p.ranks = wide.0 in omega arith) g.owned room g.cells g.once
+            ∙ sym (rows_at there st.memories r))
             ∙ ap (updated_rows there 0) h.memories;
         variables = ext_get_or (pos 0) (put_values is (drop (total_all ss) ws) st.variables) (updated here 0 st.variables)
             (put_length is (drop (total_all ss) ws) st.variables ∙ sym (updated_length here 0 st.variables))
             (λ i il. let lt : i < length st.variables =
-                (let n : length (put_values is (drop (total_all ss) ws) st.variables) ≡ length st.variables =
-                put_length is (drop (total_all ss) ws) st.variables in omega arith) in
+            (let n : length (put_values is (drop (total_all ss) ws) st.variables) ≡ length st.variables =
+            put_length is (drop (total_all ss) ws) st.variables in omega arith) in
             put_at is (drop (total_all ss) ws) st.variables i lt h.sized.count g.variables (once_behind (owned_cells l.cell_at ss) (index_cells l.variable_at is) (subst Once g.cells g.once))
             ∙ (sym (lookup_owned l.cell_at ss (index_cells l.variable_at is) ws (l.variable_at i) (get_or st.variables i (pos 0)) room)
             ∙ (ap (λ z. lookup z ws (Variable (l.variable_at i)) (get_or st.variables i (pos 0))) (sym g.cells) ∙ sym (updated_at here st.variables i (pos 0) lt))))

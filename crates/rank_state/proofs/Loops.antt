@@ -26,8 +26,8 @@ module _ {F : Type 0} (p : Setup F) (l : Layout F) (t : Tables) (q : Indexed p l
   next n none st h spans indices o =
       let g = loop_flat p l k n f in
       cond-false (is_some (loop_flat p l k n f).stop) (loop_flat p l k n f)
-          (element_flat p l k n (l.core k n (map (variable p l (loop_flat p l k n f)) l.constants)
-          (map (owned p l (loop_flat p l k n f)) (l.cells k n))) (loop_flat p l k n f)) (ap is_some none)
+      (element_flat p l k n (l.core k n (map (variable p l (loop_flat p l k n f)) l.constants)
+      (map (owned p l (loop_flat p l k n f)) (l.cells k n))) (loop_flat p l k n f)) (ap is_some none)
       ∙ ap (λ c. element_flat p l k n c (loop_flat p l k n f)) (sym (run_same st (loop_flat p l k n f) h n spans indices o))
 
   -- one element more
@@ -38,8 +38,8 @@ module _ {F : Type 0} (p : Setup F) (l : Layout F) (t : Tables) (q : Indexed p l
       let g = loop_flat p l k n f in
       let len : length us ≡ length (l.cells k n) =
       z.same_length k n (map (variable p l (loop_flat p l k n f)) l.constants) (map (owned p l (loop_flat p l k n f)) (l.cells k n)) us
-          (ap is_loop kind) lt (length-map (l.cells k n) (owned p l (loop_flat p l k n f)))
-          (sym (run_same st (loop_flat p l k n f) h n spans indices o) ∙ e) in
+      (ap is_loop kind) lt (length-map (l.cells k n) (owned p l (loop_flat p l k n f)))
+      (sym (run_same st (loop_flat p l k n f) h n spans indices o) ∙ e) in
       subst (λ c. Shows p l t (left_in spans indices c st) (loop_flat p l k (suc n) f)) (sym e)
       (subst (Shows p l t (left_in spans indices (Leaves us) st)) (sym (next n h.stop st h spans indices o ∙ ap (λ c. element_flat p l k n c (loop_flat p l k n f)) e))
       (element_leaves p l t q st (loop_flat p l k n f) h law k n spans indices o us len))
@@ -58,8 +58,8 @@ module _ {F : Type 0} (p : Setup F) (l : Layout F) (k : ℕ) (f : Flat F) where
       (λ (i : n ≡ suc m → ⊥).
       let same : loop_flat p l k m f ≡ loop_flat p l k n f = ended_there n m (omega arith) x e in
       cond-true (is_some (loop_flat p l k m f).stop) (loop_flat p l k m f)
-          (element_flat p l k m (l.core k m (map (variable p l (loop_flat p l k m f)) l.constants)
-          (map (owned p l (loop_flat p l k m f)) (l.cells k m))) (loop_flat p l k m f))
-          (ap (λ (g : Flat F). is_some g.stop) same ∙ ap is_some e)
+      (element_flat p l k m (l.core k m (map (variable p l (loop_flat p l k m f)) l.constants)
+      (map (owned p l (loop_flat p l k m f)) (l.cells k m))) (loop_flat p l k m f))
+      (ap (λ (g : Flat F). is_some g.stop) same ∙ ap is_some e)
       ∙ same)
       (cases_eq n (suc m))

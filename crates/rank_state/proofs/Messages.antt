@@ -90,13 +90,13 @@ module _ {F : Type 0} (p : Setup F) (l : Layout F) (t : Tables) (q : Indexed p l
       let inside : Within (length (row st.memories r)) spans = subst (λ n. Within n spans) (sym (row_length r lt)) e.within in
       let new : arrived spans (first_post s r st.mail.posts) (row st.memories r) ≡ scattered 0 y.values spans (row st.memories r) = ap (λ o. arrived spans o (row st.memories r)) one in
       let same : length (arrived spans (first_post s r st.mail.posts) (row st.memories r)) ≡ length (row st.memories r) = ap length new
-          ∙ scattered_length 0 y.values spans (row st.memories r) inside (omega arith) in
+      ∙ scattered_length 0 y.values spans (row st.memories r) inside (omega arith) in
       let back : scattered 0 y.values spans (row st.memories r) ≡ looked_up (arrives p k r s) (l.cell_at r) (l.exports k s r) y.values (row st.memories r) =
       copied_back (arrives p k r s) (l.place r) (l.cell_at r) (l.width r) (λ i il. q.place_at r i lt il) law spans l.variable_at [] (l.exports k s r) y.values (row st.memories r)
       (e.cells ∙ sym (append-nil (span_cells (l.cell_at r) spans))) e.once (row_length r lt) e.within (omega arith) e.writes in
       let written : arrived spans (first_post s r st.mail.posts) (row st.memories r) ≡ looked_up (arrives p y.item r s) (l.cell_at r) (l.exports y.item s r) y.values (get_or f.memories r []) =
       new ∙ (back ∙ (ap (λ j. looked_up (arrives p j r s) (l.cell_at r) (l.exports j s r) y.values (row st.memories r)) (sym about)
-          ∙ ap (looked_up (arrives p y.item r s) (l.cell_at r) (l.exports y.item s r) y.values) (row_is r))) in
+      ∙ ap (looked_up (arrives p y.item r s) (l.cell_at r) (l.exports y.item s r) y.values) (row_is r))) in
       record {
         sized = record {
           ranks = length-set st.memories r (arrived spans (first_post s r st.mail.posts) (row st.memories r)) ∙ ranks;

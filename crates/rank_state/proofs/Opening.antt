@@ -32,5 +32,5 @@ module _ {F : Type 0} (p : Setup F) (l : Layout F) where
   others_shut t old new f k r x y h g ne shut =
       nothing_open p l t new (flat_step p l (Begin k r x) f) g r y
       (λ j. ap is_shut (leaves k r x j y
-          (l.core k (l.original k r x) (map (variable p l f) l.constants) (map (window p l f k r) (l.cells k (l.original k r x)))) f ne
-          ∙ (sym (h.panes j r y) ∙ ap (pane_in j) shut)))
+      (l.core k (l.original k r x) (map (variable p l f) l.constants) (map (window p l f k r) (l.cells k (l.original k r x)))) f ne
+      ∙ (sym (h.panes j r y) ∙ ap (pane_in j) shut)))

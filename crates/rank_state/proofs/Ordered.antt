@@ -57,7 +57,7 @@ module _ {F : Type 0} (p : Setup F) (l : Layout F) (t : Tables) (q : Indexed p l
     λ r rl. ⊎_elim
         (λ (e : r ≡ s.rank). subst (λ z. length (get_or (put_span from f s ms) z []) ≡ l.width z) (sym e)
         (ap length (get_or-set_same ms s.rank (with_window s.at (cells_at from s.dim f) (get_or ms s.rank [])) []
-            (let n : length ms ≡ p.ranks = w.0 in omega arith)) ∙ (window_fits from f s ms w lr fit room ∙ w.1 s.rank lr)))
+        (let n : length ms ≡ p.ranks = w.0 in omega arith)) ∙ (window_fits from f s ms w lr fit room ∙ w.1 s.rank lr)))
         (λ (ne : r ≡ s.rank → ⊥). ap length (get_or-set_other ms s.rank r (with_window s.at (cells_at from s.dim f) (get_or ms s.rank [])) [] ne) ∙ w.1 r rl)
         (cases_eq r s.rank),
   )
@@ -66,20 +66,20 @@ module _ {F : Type 0} (p : Setup F) (l : Layout F) (t : Tables) (q : Indexed p l
   span_row : (r from : ℕ) (f : List ℤ) (s : Owned) (xs : List Cell) (ms : List (List ℤ)) → Wide ms → r < p.ranks → s.rank < p.ranks
       → s.at + s.dim ≤ l.width s.rank → ((j : ℕ) → j < s.dim → owner_of p (l.cell_at s.rank (s.at + j)) ≡ s.rank) → from + s.dim ≤ length f
       → scatter (mine r) (l.place r) (cells_from (l.cell_at s.rank) s.at s.dim ++ xs) (drop from f) (get_or ms r []) ≡ scatter (mine r)
-          (l.place r) xs (drop (from + s.dim) f) (get_or (put_span from f s ms) r [])
+      (l.place r) xs (drop (from + s.dim) f) (get_or (put_span from f s ms) r [])
   span_row r from f s xs ms w rl lr fit own room =
       let left : s.dim ≤ length (drop from f) = omega (arith, length-drop from f) in
       ⊎_elim
       (λ (e : r ≡ s.rank).
       subst (λ z. scatter (mine z) (l.place z) (cells_from (l.cell_at s.rank) s.at s.dim ++ xs) (drop from f) (get_or ms z []) ≡ scatter
-          (mine z) (l.place z) xs (drop (from + s.dim) f) (get_or (put_span from f s ms) z [])) (sym e)
+      (mine z) (l.place z) xs (drop (from + s.dim) f) (get_or (put_span from f s ms) z [])) (sym e)
       (span_scatter (mine s.rank) (l.place s.rank) (l.cell_at s.rank) (l.width s.rank) (λ i il. q.place_at s.rank i lr il) s.at s.dim true
-          xs (drop from f) (get_or ms s.rank []) (w.1 s.rank lr) fit left
+      xs (drop from f) (get_or ms s.rank []) (w.1 s.rank lr) fit left
       (λ j jl. ap (λ z. z == s.rank) (own j jl) ∙ eq-eqb s.rank s.rank refl)
       ∙ (ap (λ z. scatter (mine s.rank) (l.place s.rank) xs z (with_window s.at (cells_at from s.dim f) (get_or ms s.rank []))) (drop-drop s.dim from f)
       ∙ ap (scatter (mine s.rank) (l.place s.rank) xs (drop (from + s.dim) f))
-          (sym (get_or-set_same ms s.rank (with_window s.at (cells_at from s.dim f) (get_or ms s.rank [])) []
-          (let n : length ms ≡ p.ranks = w.0 in omega arith))))))
+      (sym (get_or-set_same ms s.rank (with_window s.at (cells_at from s.dim f) (get_or ms s.rank [])) []
+      (let n : length ms ≡ p.ranks = w.0 in omega arith))))))
       (λ (ne : r ≡ s.rank → ⊥).
       skip_scatter (mine r) (l.place r) (l.cell_at s.rank) s.at s.dim xs (drop from f) (get_or ms r []) left (λ j jl. ne_eqb (owner_of p (l.cell_at s.rank (s.at + j))) r (λ z. ne (sym z ∙ own j jl)))
       ∙ (ap (λ z. scatter (mine r) (l.place r) xs z (get_or ms r [])) (drop-drop s.dim from f)
@@ -92,7 +92,7 @@ module _ {F : Type 0} (p : Setup F) (l : Layout F) (t : Tables) (q : Indexed p l
 
   rows_scatter : (r from : ℕ) (f : List ℤ) (ss : List Owned) (xs : List Cell) (ms : List (List ℤ)) → Wide ms → r < p.ranks → OwnedBy p l t ss → from + total_all ss ≤ length f
       → scatter (mine r) (l.place r) (owned_cells l.cell_at ss ++ xs) (drop from f) (get_or ms r []) ≡ scatter (mine r) (l.place r) xs
-          (drop (from + total_all ss) f) (get_or (scattered_all from f ss ms) r [])
+      (drop (from + total_all ss) f) (get_or (scattered_all from f ss ms) r [])
   rows_scatter r from f [] xs ms w rl own room = ap (λ n. scatter (mine r) (l.place r) xs (drop n f) (get_or ms r [])) (sym (add-zero from))
   rows_scatter r from f (s ∷ ss) xs ms w rl own room =
       ap (λ z. scatter (mine r) (l.place r) z (drop from f) (get_or ms r [])) (append_assoc (cells_from (l.cell_at s.rank) s.at s.dim) (owned_cells l.cell_at ss) xs)
@@ -126,7 +126,7 @@ module _ {F : Type 0} (p : Setup F) (l : Layout F) (t : Tables) (q : Indexed p l
   among_owned r [] xs c own mineness h = inr h
   among_owned r (s ∷ ss) xs c own mineness h = ⊎_elim (λ i. inl i) (λ i. among_owned r ss xs c own.3 mineness i)
       (among_one r s.rank s.at s.dim 0 (owned_cells l.cell_at ss ++ xs) c own.1 own.2 mineness
-          (subst (λ z. among z (Data c) ≡ true) (append_assoc (cells_from (l.cell_at s.rank) s.at s.dim) (owned_cells l.cell_at ss) xs) h))
+      (subst (λ z. among z (Data c) ≡ true) (append_assoc (cells_from (l.cell_at s.rank) s.at s.dim) (owned_cells l.cell_at ss) xs) h))
 
   among_variables : (is : List ℕ) (c : DatCell) → among (index_cells l.variable_at is) (Data c) ≡ true → ⊥
   among_variables [] c h = false≢true h
@@ -150,7 +150,7 @@ module _ {F : Type 0} (p : Setup F) (l : Layout F) (t : Tables) (q : Indexed p l
       let xs = owned_cells l.cell_at ss ++ index_cells l.variable_at is in
       let both : scatter (mine r) (l.place r) (owned_cells l.cell_at ss ++ index_cells l.variable_at is) ws (get_or ms r []) ≡ get_or (scattered_all 0 ws ss ms) r [] =
       rows_scatter r 0 ws ss (index_cells l.variable_at is) ms w rl own (omega arith)
-          ∙ skip_variables (mine r) (l.place r) l.variable_at is (drop (0 + total_all ss) ws) (get_or (scattered_all 0 ws ss ms) r []) in
+      ∙ skip_variables (mine r) (l.place r) l.variable_at is (drop (0 + total_all ss) ws) (get_or (scattered_all 0 ws ss ms) r []) in
       sym both
       ∙ (law (mine r) (l.place r) (l.cell_at r) (owned_cells l.cell_at ss ++ index_cells l.variable_at is) ws (get_or ms r []) (subst Once e once)
       (subst (Placed (mine r) (l.place r) (l.cell_at r) (owned_cells l.cell_at ss ++ index_cells l.variable_at is)) (sym (w.1 r rl)) (placed r ss is rl own))

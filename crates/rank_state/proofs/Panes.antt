@@ -15,7 +15,7 @@ ranks_kept r x v ps = length-set ps r (set (get_or ps r []) x v)
 pub places_kept : (r x : ℕ) (v : Pane) (ps : List (List Pane)) → r < length ps → (a : ℕ) → length (get_or (with_pane r x v ps) a []) ≡ length (get_or ps a [])
 places_kept r x v ps lt a = ⊎_elim
     (λ (e : a ≡ r). subst (λ z. length (get_or (with_pane r x v ps) z []) ≡ length (get_or ps z [])) (sym e)
-        (ap length (get_or-set_same ps r (set (get_or ps r []) x v) [] lt) ∙ length-set (get_or ps r []) x v))
+    (ap length (get_or-set_same ps r (set (get_or ps r []) x v) [] lt) ∙ length-set (get_or ps r []) x v))
     (λ (ne : a ≡ r → ⊥). ap length (get_or-set_other ps r a (set (get_or ps r []) x v) [] ne))
     (cases_eq a r)
 

@@ -50,16 +50,16 @@ module _ {F : Type 0} (p : Setup F) (l : Layout F) (t : Tables) (q : Indexed p l
   pub pass_step : LookUp → (k r x : ℕ) → IsStep (by_place p l) (Begin k r x) → (spans : List Span) (scalars : List Scalar)
       → AreWindows p l t k r x spans scalars → pane_at st.frames.panes r x ≡ Shut → 0 < st.frames.left
       → Shows p l t (passed (p.owner (p.program.set k) (l.original k r x) == r) k r (l.original k r x) spans scalars
-          (l.core k (l.original k r x) (values_at st.variables t.constants) (windows_of st r spans scalars)) st)
+      (l.core k (l.original k r x) (values_at st.variables t.constants) (windows_of st r spans scalars)) st)
       (flat_step p l (End k r x) (flat_step p l (Begin k r x) f))
   pass_step law k r x plan spans scalars e none some =
       let can = can_begin p l t st f h q k r x plan spans scalars e in
       let begun = begin_step p l t q st f h z k r x plan spans scalars e none in
       subst (λ s. Shows p l t s (flat_step p l (End k r x) (flat_step p l (Begin k r x) f)))
       (passes st (p.owner (p.program.set k) (l.original k r x) == r) k r x (l.original k r x) spans scalars
-          (l.core k (l.original k r x) (values_at st.variables t.constants) (windows_of st r spans scalars)) can.frame.rank can.frame.place
-          none some)
+      (l.core k (l.original k r x) (values_at st.variables t.constants) (windows_of st r spans scalars)) can.frame.rank can.frame.place
+      none some)
       (end_step p l t q (begun_as k r x (l.original k r x)
-          (l.core k (l.original k r x) (values_at st.variables t.constants) (windows_of st r spans scalars)) st)
-          (flat_step p l (Begin k r x) f) begun law k r x plan spans scalars e
-          (λ shut. begin_opens p l k r x f (sym (begun.panes k r x) ∙ shut)))
+      (l.core k (l.original k r x) (values_at st.variables t.constants) (windows_of st r spans scalars)) st)
+      (flat_step p l (Begin k r x) f) begun law k r x plan spans scalars e
+      (λ shut. begin_opens p l k r x f (sym (begun.panes k r x) ∙ shut)))

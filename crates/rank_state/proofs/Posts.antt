@@ -126,6 +126,6 @@ first_of s r (x ∷ ps) k ks h = by_test (is_of s r x) h (first_of s r ps k ks)
   where
     by_test : (b : Bool) → map (λ (z : flat.Post). z.about) (cond b (post_of x ∷ queue s r ps) (queue s r ps)) ≡ k ∷ ks
         → (map (λ (z : flat.Post). z.about) (queue s r ps) ≡ k ∷ ks → (y : Post) × (first_post s r ps ≡ Some y) × (y.item ≡ k)) → (y : Post)
-            × (cond b (Some x) (first_post s r ps) ≡ Some y) × (y.item ≡ k)
+        × (cond b (Some x) (first_post s r ps) ≡ Some y) × (y.item ≡ k)
     by_test true e ih = (x, refl, (let j : x.item ≡ k = cc in j))
     by_test false e ih = ih e

@@ -84,7 +84,7 @@ module _ {F : Type 0} (p : Setup F) (l : Layout F) (t : Tables) (k : ℕ) where
       (λ (y : (i == index x) ≡ true). or_left (same_cell (Variable (l.variable_at (index x))) (Variable (l.variable_at i))) (among (scalar_cells l.variable_at xs) (Variable (l.variable_at i)))
       (ap (λ z. same_cell (Variable (l.variable_at (index x))) (Variable (l.variable_at z))) (eqb-true i (index x) y) ∙ same_cell_refl (Variable (l.variable_at (index x)))))
       (λ (y : has_index i xs ≡ true). or_right (same_cell (Variable (l.variable_at (index x))) (Variable (l.variable_at i)))
-          (among (scalar_cells l.variable_at xs) (Variable (l.variable_at i))) (index_among i xs y))
+      (among (scalar_cells l.variable_at xs) (Variable (l.variable_at i))) (index_among i xs y))
       (or_cases (i == index x) (has_index i xs) e)
 
 module _ {F : Type 0} (p : Setup F) (l : Layout F) (t : Tables) (st : State F) (f : Flat F) (h : Shows p l t st f) (k : ℕ) where
@@ -98,8 +98,8 @@ module _ {F : Type 0} (p : Setup F) (l : Layout F) (t : Tables) (st : State F) (
   merges_rows o slot v ls site cell (suc n) le x =
       ap (λ z. merged o z (get_or (get_or st.partials n []) slot (pos 0))) (merges_rows o slot v ls site cell n (omega arith) x)
       ∙ ap (merged o (merge_ranks p l f (Some o) (p.program.site k) v n x))
-          (h.partials n slot (omega arith) ls ∙
-          (ap (λ s. f.partials n s (t.reduced_at slot)) site ∙ ap (f.partials n (p.program.site k)) cell))
+      (h.partials n slot (omega arith) ls ∙
+      (ap (λ s. f.partials n s (t.reduced_at slot)) site ∙ ap (f.partials n (p.program.site k)) cell))
 
   -- what one variable's cell becomes
   abbrev after : ℕ → ℤ → ℤ
@@ -124,8 +124,8 @@ module _ {F : Type 0} (p : Setup F) (l : Layout F) (t : Tables) (st : State F) (
   reduce_at i (x ∷ xs) vs lt g once e = ⊎_elim
       (λ (y : (i == index x) ≡ true).
       let rest : has_index i xs ≡ false = false_from_ne_true (has_index i xs)
-          (λ z. false≢true (sym once.0 ∙ (ap (λ c. among (scalar_cells l.variable_at xs) (Variable (l.variable_at c)))
-          (sym (eqb-true i (index x) y)) ∙ index_among p l t k i xs z))) in
+      (λ z. false≢true (sym once.0 ∙ (ap (λ c. among (scalar_cells l.variable_at xs) (Variable (l.variable_at c)))
+      (sym (eqb-true i (index x) y)) ∙ index_among p l t k i xs z))) in
       reduce_other st.partials p.ranks i xs (reduce_one st.partials p.ranks x vs) rest ∙ reduce_here i x vs lt g.0 y)
       (λ (y : (i == index x) ≡ false).
       let rest : has_index i xs ≡ true = ⊎_elim (λ z. absurd (false≢true (sym y ∙ z))) (λ z. z) (or_cases (i == index x) (has_index i xs) e) in
@@ -150,8 +150,8 @@ module _ {F : Type 0} (p : Setup F) (l : Layout F) (t : Tables) (st : State F) (
       (λ (y : has_index i scalars ≡ false).
       reduce_other st.partials p.ranks i scalars st.variables y
       ∙ sym (ap (λ z. merge_ranks p l f z (p.program.site k) (l.variable_at i) p.ranks (get_or st.variables i (pos 0)))
-          (no_reduction (p.reduces (p.program.site k) (l.variable_at i)) refl y)
-          ∙ merges_none (l.variable_at i) p.ranks (get_or st.variables i (pos 0))))
+      (no_reduction (p.reduces (p.program.site k) (l.variable_at i)) refl y)
+      ∙ merges_none (l.variable_at i) p.ranks (get_or st.variables i (pos 0))))
       (cases_Bool (has_index i scalars))
     where
       no_reduction : (o : Option Reduction) → p.reduces (p.program.site k) (l.variable_at i) ≡ o → has_index i scalars ≡ false → p.reduces (p.program.site k) (l.variable_at i) ≡ None
@@ -177,8 +177,8 @@ module _ {F : Type 0} (p : Setup F) (l : Layout F) (t : Tables) (st : State F) (
             ∙ (ext_get_or (pos 0) (reduce_all st.partials p.ranks scalars st.variables) (updated after 0 st.variables)
             (reduce_length st.partials p.ranks scalars st.variables ∙ sym (updated_length after 0 st.variables))
             (λ i il. let lt : i < length st.variables =
-                (let w : length (reduce_all st.partials p.ranks scalars st.variables) ≡ length st.variables =
-                reduce_length st.partials p.ranks scalars st.variables in omega arith) in
+            (let w : length (reduce_all st.partials p.ranks scalars st.variables) ≡ length st.variables =
+            reduce_length st.partials p.ranks scalars st.variables in omega arith) in
             reduce_any scalars g i (let w : length st.variables ≡ l.variables = h.sized.count in omega arith) ∙ sym (updated_at after st.variables i (pos 0) lt))
             ∙ ap (updated after 0) h.variables);
         partials = λ r i rl il.
@@ -188,12 +188,12 @@ module _ {F : Type 0} (p : Setup F) (l : Layout F) (t : Tables) (st : State F) (
             unite_here p l t k i scalars (get_or st.partials r []) (let w : length (get_or st.partials r []) ≡ t.slots = h.sized.slots r rl in omega arith) g.are_scalars (g.slots i il y)
             ∙ (ap (λ s. unit_at (p.reduces s (t.reduced_at i))) (sym y)
             ∙ sym (cond-true (t.site_at i == p.program.site k) (unit_at (p.reduces (t.site_at i) (t.reduced_at i)))
-                (f.partials r (t.site_at i) (t.reduced_at i)) (eq-eqb (t.site_at i) (p.program.site k) y))))
+            (f.partials r (t.site_at i) (t.reduced_at i)) (eq-eqb (t.site_at i) (p.program.site k) y))))
             (λ (y : t.site_at i ≡ p.program.site k → ⊥).
             unite_other i scalars (get_or st.partials r []) (false_from_ne_true (has_slot i scalars) (λ z. y (slot_site p l t k i scalars g.are_scalars z)))
             ∙ (h.partials r i rl il
             ∙ sym (cond-false (t.site_at i == p.program.site k) (unit_at (p.reduces (t.site_at i) (t.reduced_at i)))
-                (f.partials r (t.site_at i) (t.reduced_at i)) (ne_eqb (t.site_at i) (p.program.site k) y))))
+            (f.partials r (t.site_at i) (t.reduced_at i)) (ne_eqb (t.site_at i) (p.program.site k) y))))
             (cases_eq (t.site_at i) (p.program.site k));
         mail = h.mail;
         whole = h.whole;

@@ -49,7 +49,7 @@ pub scattered_length : (from : ℕ) (f : List ℤ) (ss : List Span) (m : List �
 scattered_length from f [] m within room = refl
 scattered_length from f (s ∷ ss) m within room =
     let e : length (cond s.writes (with_window s.at (cells_at from s.dim f) m) m) ≡ length m =
-        window_if_length s.writes s.at s.dim (drop from f) m (omega (arith, Rattle.std.proofs.Common.length-drop from f)) within.0 in
+    window_if_length s.writes s.at s.dim (drop from f) m (omega (arith, Rattle.std.proofs.Common.length-drop from f)) within.0 in
     scattered_length (from + s.dim) f ss (cond s.writes (with_window s.at (cells_at from s.dim f) m) m) (subst (λ n. Within n ss) (sym e) within.1) (omega arith) ∙ e
 
 module _ (taken : DatCell → Bool) (place : DatCell → ℕ) (cell_at : ℕ → DatCell) (n : ℕ) (placed : (i : ℕ) → i < n → place (cell_at i) ≡ i) where
@@ -81,8 +81,8 @@ module _ (taken : DatCell → Bool) (place : DatCell → ℕ) (cell_at : ℕ →
       ∙ (spans_scatter (from + s.dim) f ss xs (cond s.writes (with_window s.at (cells_at from s.dim f) m) m)
       (window_if_length s.writes s.at s.dim (drop from f) m left (omega (arith, within.0)) ∙ len) within.1 (omega arith) marked.1
       ∙ (let e : from + s.dim + total ss ≡ from + (s.dim + total ss) = omega arith in
-          ap (λ i. scatter taken place xs (drop i f)
-          (scattered (from + s.dim) f ss (cond s.writes (with_window s.at (cells_at from s.dim f) m) m))) e))))
+      ap (λ i. scatter taken place xs (drop i f)
+      (scattered (from + s.dim) f ss (cond s.writes (with_window s.at (cells_at from s.dim f) m) m))) e))))
 
   -- a cell among spans stands at an index
   abbrev AtSome : DatCell → Type 0
@@ -91,9 +91,12 @@ module _ (taken : DatCell → Bool) (place : DatCell → ℕ) (cell_at : ℕ →
   among_from : (at k : ℕ) (xs : List Cell) (c : DatCell) → at + k ≤ n → among (cells_from cell_at at k ++ xs) (Data c) ≡ true → AtSome c ⊎ (among xs (Data c) ≡ true)
   among_from at zero xs c fit h = inr h
   among_from at (suc k) xs c fit h = ⊎_elim
-      (λ (e : same_cell (Data (cell_at at)) (Data c) ≡ true). inl
-          (at, omega arith, (let i : Data (cell_at at) ≡ Data c = same_cell_true (Data (cell_at at)) (Data c) e in let j : cell_at at ≡ c =
-          cc in sym j)))
+      (λ (e : same_cell (Data (cell_at at)) (Data c) ≡ true). inl (
+        at,
+        omega arith,
+        (let i : Data (cell_at at) ≡ Data c = same_cell_true (Data (cell_at at)) (Data c) e in let j : cell_at at ≡ c =
+            cc in sym j),
+      ))
       (λ (e : among (cells_from cell_at (suc at) k ++ xs) (Data c) ≡ true). among_from (suc at) k xs c (omega arith) e)
       (or_cases (same_cell (Data (cell_at at)) (Data c)) (among (cells_from cell_at (suc at) k ++ xs) (Data c)) h)
 
@@ -128,6 +131,6 @@ module _ (taken : DatCell → Bool) (place : DatCell → ℕ) (cell_at : ℕ →
       spans_scatter 0 ws ss (scalar_cells variable_at xs) m len within (omega arith) marked ∙ scalar_scatter variable_at xs (drop (0 + total ss) ws) (scattered 0 ws ss m) in
       let look : scatter taken place (span_cells cell_at ss ++ scalar_cells variable_at xs) ws m ≡ looked_up taken cell_at (span_cells cell_at ss ++ scalar_cells variable_at xs) ws m =
       law taken place cell_at (span_cells cell_at ss ++ scalar_cells variable_at xs) ws m (subst Once e once)
-          (subst (Placed taken place cell_at (span_cells cell_at ss ++ scalar_cells variable_at xs)) (sym len)
-          (windows_placed ss variable_at xs within)) in
+      (subst (Placed taken place cell_at (span_cells cell_at ss ++ scalar_cells variable_at xs)) (sym len)
+      (windows_placed ss variable_at xs within)) in
       sym both ∙ (look ∙ ap (λ z. looked_up taken cell_at z ws m) (sym e))

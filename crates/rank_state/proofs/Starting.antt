@@ -75,7 +75,7 @@ module _ {F : Type 0} (p : Setup F) (l : Layout F) (t : Tables) where
       → Starts p l t (started memories variables slots places frames mail t.stride)
   starts_from memories variables slots places frames mail h o a =
       let row : (r : ℕ) → r < p.ranks → get_or (map (λ (m : List ℤ). units slots) memories) r [] ≡ units slots =
-          λ r lt. get_or-map (λ (m : List ℤ). units slots) memories r [] [] (let e = h.ranks in omega arith) in
+      λ r lt. get_or-map (λ (m : List ℤ). units slots) memories r [] [] (let e = h.ranks in omega arith) in
       record {
         sized = record {
           ranks = h.ranks;

@@ -107,8 +107,8 @@ module _ {F : Type 0} (p : Setup F) (l : Layout F) (t : Tables) (q : Indexed p l
       subst (λ z. length ws ≡ length (l.cells j (l.original j z b))) (sym i)
       (subst (λ z. length ws ≡ length (l.cells j (l.original j r z))) (sym y)
       (new j ws (sym (pane_here r x v st.frames.panes (in_ranks r x at) (in_row r x at))
-          ∙ (ap (λ z. pane_at (with_pane r x v st.frames.panes) z x) (sym i)
-          ∙ (ap (pane_at (with_pane r x v st.frames.panes) a) (sym y) ∙ e))))))
+      ∙ (ap (λ z. pane_at (with_pane r x v st.frames.panes) z x) (sym i)
+      ∙ (ap (pane_at (with_pane r x v st.frames.panes) a) (sym y) ∙ e))))))
       (λ (y : b ≡ x → ⊥). h.held a b j ws (sym (pane_else r x v st.frames.panes (in_ranks r x at) a b (λ z. y)) ∙ e))
       (cases_eq b x))
       (λ (i : a ≡ r → ⊥). h.held a b j ws (sym (pane_else r x v st.frames.panes (in_ranks r x at) a b (λ z w. i z)) ∙ e))
@@ -183,12 +183,12 @@ module _ {F : Type 0} (p : Setup F) (l : Layout F) (t : Tables) (q : Indexed p l
       let lt : x < l.count k r = ltb-true x (l.count k r) (and_parts (Rattle.std.specs.Prelude.nat_lt x (l.count k r)) true plan.3).0 in
       let el : l.original k r x < elements p.program k = (z.outside k r x fr plan.2 lt).0 in
       let same : l.core k (l.original k r x) (values_at st.variables t.constants) (windows_of st r spans scalars) ≡ l.core k
-          (l.original k r x) (map (variable p l f) l.constants) (map (window p l f k r) (l.cells k (l.original k r x))) =
+      (l.original k r x) (map (variable p l f) l.constants) (map (window p l f k r) (l.cells k (l.original k r x))) =
       ap₂ (l.core k (l.original k r x)) constants_are (windows_are k r x plan.2 spans scalars e) in
       subst (λ ran. Shows p l t (begun_as k r x (l.original k r x) ran st) (flat_step p l (Begin k r x) f)) (sym same)
       (open_step k r x (at_place k r x plan) none (l.core k (l.original k r x) (map (variable p l f) l.constants) (map (window p l f k r) (l.cells k (l.original k r x))))
       (λ us i. z.same_length k (l.original k r x) (map (variable p l f) l.constants) (map (window p l f k r) (l.cells k (l.original k r x)))
-          us (ap is_loop fr) el (length-map (l.cells k (l.original k r x)) (window p l f k r)) i))
+      us (ap is_loop fr) el (length-map (l.cells k (l.original k r x)) (window p l f k r)) i))
 
   -- ---- end
 
@@ -254,8 +254,8 @@ module _ {F : Type 0} (p : Setup F) (l : Layout F) (t : Tables) (q : Indexed p l
   partial_here : (own : Bool) (k r x : ℕ) (spans : List Span) (scalars : List Scalar) (ws : List ℤ) (i : ℕ) → r < p.ranks
       → AreWindows p l t k r x spans scalars → length ws ≡ length (l.cells k (l.original k r x))
       → i < t.slots → t.site_at i ≡ p.program.site k → get_or
-          (cond own (amounts scalars (drop (total spans) ws) (row st.partials r)) (row st.partials r)) i (pos 0) ≡ merging own k r
-          (l.original k r x) ws (t.reduced_at i)
+      (cond own (amounts scalars (drop (total spans) ws) (row st.partials r)) (row st.partials r)) i (pos 0) ≡ merging own k r
+      (l.original k r x) ws (t.reduced_at i)
   partial_here own k r x spans scalars ws i lr e len lt site = by_own own
     where
       before : get_or (row st.partials r) i (pos 0) ≡ f.partials r (p.program.site k) (t.reduced_at i)
@@ -267,13 +267,13 @@ module _ {F : Type 0} (p : Setup F) (l : Layout F) (t : Tables) (q : Indexed p l
       by_own : (b : Bool) → get_or (cond b (amounts scalars (drop (total spans) ws) (row st.partials r)) (row st.partials r)) i (pos 0) ≡ merging b k r (l.original k r x) ws (t.reduced_at i)
       by_own true =
           amounts_here p l t k i scalars (drop (total spans) ws) (row st.partials r)
-              (let w : length (row st.partials r) ≡ t.slots = h.sized.slots r lr in omega arith)
-              (omega (arith, all, length-drop (total spans) ws)) e.are_scalars
+          (let w : length (row st.partials r) ≡ t.slots = h.sized.slots r lr in omega arith)
+          (omega (arith, all, length-drop (total spans) ws)) e.are_scalars
           (once_behind (span_cells (l.cell_at r) spans) (scalar_cells l.variable_at scalars) (subst Rattle.schedule_model.specs.Scatter.Once e.cells e.once)) (e.covers i lt site)
           ∙ (ap (λ z. merge_at (p.reduces (p.program.site k) (t.reduced_at i)) z (lookup (scalar_cells l.variable_at scalars) (drop (total spans) ws) (Variable (t.reduced_at i)) (pos 0))) before
           ∙ ap (merge_at (p.reduces (p.program.site k) (t.reduced_at i)) (f.partials r (p.program.site k) (t.reduced_at i)))
           (sym (lookup_scalar (l.cell_at r) spans (scalar_cells l.variable_at scalars) ws (t.reduced_at i) (pos 0) (omega (arith, all)))
-              ∙ ap (λ z. lookup z ws (Variable (t.reduced_at i)) (pos 0)) (sym e.cells)))
+          ∙ ap (λ z. lookup z ws (Variable (t.reduced_at i)) (pos 0)) (sym e.cells)))
       by_own false = before
 
   partial_else : (own : Bool) (k r : ℕ) (n : ℕ) (scalars : List Scalar) (ws : List ℤ) (i : ℕ) → AreScalars p l t k scalars → (t.site_at i ≡ p.program.site k → ⊥)
@@ -284,25 +284,25 @@ module _ {F : Type 0} (p : Setup F) (l : Layout F) (t : Tables) (q : Indexed p l
   partials_put : (own : Bool) (k r x : ℕ) (spans : List Span) (scalars : List Scalar) (ws : List ℤ) → r < p.ranks
       → AreWindows p l t k r x spans scalars → length ws ≡ length (l.cells k (l.original k r x)) → (a i : ℕ) → a < p.ranks → i < t.slots
       → get_or (get_or (set st.partials r (cond own (amounts scalars (drop (total spans) ws) (row st.partials r)) (row st.partials r))) a
-          []) i (pos 0) ≡ put2 r (p.program.site k) (merging own k r (l.original k r x) ws) f.partials a (t.site_at i) (t.reduced_at i)
+      []) i (pos 0) ≡ put2 r (p.program.site k) (merging own k r (l.original k r x) ws) f.partials a (t.site_at i) (t.reduced_at i)
   partials_put own k r x spans scalars ws lr e len a i al il =
       let new = cond own (amounts scalars (drop (total spans) ws) (row st.partials r)) (row st.partials r) in
       let lp : r < length st.partials = (let w : length st.partials ≡ p.ranks = h.sized.partials in omega arith) in
       ⊎_elim
       (λ (y : (a ≡ r) × (t.site_at i ≡ p.program.site k)).
       subst (λ z. get_or (get_or (set st.partials r
-          (cond own (amounts scalars (drop (total spans) ws) (row st.partials r)) (row st.partials r))) z []) i (pos 0) ≡ put2 r
-          (p.program.site k) (merging own k r (l.original k r x) ws) f.partials z (t.site_at i) (t.reduced_at i)) (sym y.0)
+      (cond own (amounts scalars (drop (total spans) ws) (row st.partials r)) (row st.partials r))) z []) i (pos 0) ≡ put2 r
+      (p.program.site k) (merging own k r (l.original k r x) ws) f.partials z (t.site_at i) (t.reduced_at i)) (sym y.0)
       (ap (λ z. get_or z i (pos 0)) (get_or-set_same st.partials r (cond own (amounts scalars (drop (total spans) ws) (row st.partials r)) (row st.partials r)) [] lp)
       ∙ (partial_here own k r x spans scalars ws i lr e len il y.1
       ∙ ap (λ g. g (t.reduced_at i)) (sym (ap (put2 r (p.program.site k) (merging own k r (l.original k r x) ws) f.partials r) y.1
-          ∙ put2_same r (p.program.site k) (merging own k r (l.original k r x) ws) f.partials)))))
+      ∙ put2_same r (p.program.site k) (merging own k r (l.original k r x) ws) f.partials)))))
       (λ (ne : pair a (t.site_at i) r (p.program.site k) ≡ false).
       ⊎_elim
       (λ (y : a ≡ r).
       let other : t.site_at i ≡ p.program.site k → ⊥ =
-          (λ s. false≢true (sym ne ∙ Rattle.std.proofs.lemmas.Bool.and_from (a == r) (t.site_at i == p.program.site k) (eq-eqb a r y)
-          (eq-eqb (t.site_at i) (p.program.site k) s))) in
+      (λ s. false≢true (sym ne ∙ Rattle.std.proofs.lemmas.Bool.and_from (a == r) (t.site_at i == p.program.site k) (eq-eqb a r y)
+      (eq-eqb (t.site_at i) (p.program.site k) s))) in
       ap (λ z. get_or (get_or (set st.partials r (cond own (amounts scalars (drop (total spans) ws) (row st.partials r)) (row st.partials r))) z []) i (pos 0)) y
       ∙ (ap (λ z. get_or z i (pos 0)) (get_or-set_same st.partials r (cond own (amounts scalars (drop (total spans) ws) (row st.partials r)) (row st.partials r)) [] lp)
       ∙ (partial_else own k r (total spans) scalars ws i e.are_scalars other ∙ ap (λ z. get_or (get_or st.partials z []) i (pos 0)) (sym y))))
@@ -323,8 +323,8 @@ module _ {F : Type 0} (p : Setup F) (l : Layout F) (t : Tables) (q : Indexed p l
         sized = ended_sized (p.owner (p.program.set k) (l.original k r x) == r) r x spans scalars at e.within (subst (Rattle.rank_state.specs.Frames.Enough (total spans)) (sym i) room);
         memories = ap (λ z. set st.memories r (closed spans z (row st.memories r))) i
             ∙ (ap (set st.memories r) (copied_back (λ c. p.modifies k c.dat) (l.place r) (l.cell_at r) (l.width r)
-                (λ j jl. q.place_at r j at.rank jl) law spans l.variable_at scalars (l.cells k (l.original k r x)) ws (row st.memories r)
-                e.cells e.once (row_length r at.rank) e.within room e.writes)
+            (λ j jl. q.place_at r j at.rank jl) law spans l.variable_at scalars (l.cells k (l.original k r x)) ws (row st.memories r)
+            e.cells e.once (row_length r at.rank) e.within room e.writes)
             ∙ ap (λ ms. set ms r (looked_up (λ c. p.modifies k c.dat) (l.cell_at r) (l.cells k (l.original k r x)) ws (row ms r))) h.memories);
         variables = h.variables;
         partials = λ a j al jl.
@@ -360,14 +360,14 @@ module _ {F : Type 0} (p : Setup F) (l : Layout F) (t : Tables) (q : Indexed p l
       by_pane (Broken j) i n = ⊎_elim
           (λ (y : (k == j) ≡ true).
           subst (λ z. Shows p l t (ended (p.owner (p.program.set k) (l.original k r x) == r) r x spans scalars st)
-              (close_pane p l k r x (l.original k r x) z f)) (sym (cond-true (k == j) flat.Broken_pane flat.Shut_pane y))
+          (close_pane p l k r x (l.original k r x) z f)) (sym (cond-true (k == j) flat.Broken_pane flat.Shut_pane y))
           (broken_step (p.owner (p.program.set k) (l.original k r x) == r) k r x spans scalars (at_place k r x plan) e.within (i ∙ ap Broken (sym (eqb-true k j y)))))
           (λ (y : (k == j) ≡ false). absurd (n (cond-false (k == j) flat.Broken_pane flat.Shut_pane y)))
           (cases_Bool (k == j))
       by_pane (Holds j ws) i n = ⊎_elim
           (λ (y : (k == j) ≡ true).
           subst (λ z. Shows p l t (ended (p.owner (p.program.set k) (l.original k r x) == r) r x spans scalars st)
-              (close_pane p l k r x (l.original k r x) z f)) (sym (cond-true (k == j) (flat.Windows ws) flat.Shut_pane y))
+          (close_pane p l k r x (l.original k r x) z f)) (sym (cond-true (k == j) (flat.Windows ws) flat.Shut_pane y))
           (windows_step law k r x spans scalars ws (at_place k r x plan) e (i ∙ ap (λ z. Holds z ws) (sym (eqb-true k j y)))))
           (λ (y : (k == j) ≡ false). absurd (n (cond-false (k == j) (flat.Windows ws) flat.Shut_pane y)))
           (cases_Bool (k == j))

@@ -1,12 +1,12 @@
 -- A renumbering is one.
-use Rattle.std.proofs.Common.{◌≡◌, ◌≢◌, ℕ, zero, suc, ◌+◌, ◌*◌, ◌^◌, ◌<◌, ◌≤◌, Bool, false, min, List, [], length, take, reverse, get_or, refl, sym, ap, ◌∙◌, arith, ⊎_elim, inr, subst}
+use Rattle.std.proofs.Common.{◌≡◌, ◌≢◌, ℕ, zero, suc, ◌+◌, ◌*◌, ◌^◌, ◌<◌, ◌≤◌, Bool, false, List, [], length, take, reverse, get_or, refl, sym, ap, ◌∙◌, arith, ⊎_elim, inr, subst}
 use Rattle.std.specs.List.{Contains}
 use Rattle.std.proofs.lemmas.Bool.{cases_eq, cases_lt}
 use Rattle.std.proofs.lemmas.List.{ext_get_or, get_or_default, get_or-take, length-take-le, length-reverse}
 use Rattle.mesh_decl.specs.declared.owners.Perms.{Perms}
 use Rattle.mesh_decl.specs.Mesh.{MeshValue, IsMapAt, set_count, set_size, map_from, map_to, map_dim, target}
 use Rattle.mesh_decl.specs.Owners.{ArePerms, IsNumbering, perm_in}
-use Rattle.renumber.specs.Taken.{IsTaken, IsNext, Rises, earliest}
+use Rattle.renumber.specs.Taken.{IsTaken, Rises, earliest}
 use Rattle.renumber.specs.Neighbours.{are_neighbours}
 use Rattle.renumber.specs.Degrees.{degree_order}
 use Rattle.renumber.specs.OneOrder.{AreApart, IsOneOrder, DegreesAreApart}

@@ -146,10 +146,10 @@ module _ (b : BoundValue) where
         let before : first + i < count = omega (arith, fit.within v first lv at) in
         let m = is_named (first + i) before in
         let own : covers (var_at b v) (first + i) ≡ true = covered_by (var_at b v).constant (length (var_at b v).start) (first + i) first at
-            (among_true first (length (var_at b v).start) (first + i) (omega arith) (omega arith)) in
+        (among_true first (length (var_at b v).start) (first + i) (omega arith) (omega arith)) in
         let its : covers (var_at b m.number) (first + i) ≡ true =
-            covered_by (var_at b m.number).constant (length (var_at b m.number).start) (first + i) m.first m.constant
-            (among_true m.first (length (var_at b m.number).start) (first + i) m.from m.before) in
+        covered_by (var_at b m.number).constant (length (var_at b m.number).start) (first + i) m.first m.constant
+        (among_true m.first (length (var_at b m.number).start) (first + i) m.from m.before) in
         let same : m.number ≡ v = ⊎_elim (λ (e : m.number ≡ v). e) (λ (ne : m.number ≢ v). absurd (apart (first + i) m.number v m.below lv ne its own)) (cases_eq m.number v) in
         let firsts : m.first ≡ first = same_Some m.first first (sym m.constant ∙ ap (λ n. (var_at b n).constant) same ∙ at) in
         let variable : (constant_in b.vars 0 (first + i)).variable ≡ v = omega (arith, m.variable, same) in

@@ -50,7 +50,7 @@ module _ (shape : ShapeStays) (b : BoundValue) (site : SiteValue) (e : ℕ) (k :
       (windows_are_reached b site e) (is_argument b site) reach s (kernel_meaning (windows b site.args e) (constant_values b s) k (map s (window_cells b site.args e) ∷ []))
       ((shape k (windows b site.args e) (constant_values b s) (map s (window_cells b site.args e) ∷ [])
       (fit (entries b) (dat_width b) (var_width b) (argument_at site) (length site.args) e (modes_of b site) (cell_of b site e)
-          (window_cells b site.args e) (windows b site.args e) (windows_are_reached b site e) s)).1 0
+      (window_cells b site.args e) (windows b site.args e) (windows_are_reached b site e) s)).1 0
       ∙ length-map (window_cells b site.args e) s)
 
   runs_kernel : RunsKernel b site e k (run_of b (Some k) site e)

@@ -1,9 +1,9 @@
 -- The memory before the run holds the values that the program begins with.
-use Rattle.std.proofs.Common.{◌≡◌, ◌<◌, ◌≤◌, ◌+◌, ◌*◌, ℕ, zero, suc, ℤ, pos, true, List, [], ◌∷◌, ◌++◌, length, get_or, take, flat_map, refl, sym, ap, ◌∙◌, subst, arith, get_or-append-add}
+use Rattle.std.proofs.Common.{◌≡◌, ◌<◌, ◌≤◌, ◌+◌, ◌*◌, ℕ, zero, suc, ℤ, pos, true, List, length, get_or, take, flat_map, refl, sym, ap, ◌∙◌, subst, arith, get_or-append-add}
 use Rattle.std.specs.Prelude.{slice_index_or}
 use Rattle.std.proofs.lemmas.Nat.{mul-add-lt}
-use Rattle.std.proofs.lemmas.List.{length-append, append-nil, take_more, take_all, get_or_append_left}
-use Rattle.std.proofs.lemmas.List.Concat.{flat_map-append, get_or-flat_map}
+use Rattle.std.proofs.lemmas.List.{length-append, take_all, get_or_append_left}
+use Rattle.std.proofs.lemmas.List.Concat.{get_or-flat_map}
 use Rattle.std.proofs.lemmas.List.FromFn.{length-range_with_len, get_or-range_with_len}
 use Rattle.mesh_decl.specs.Mesh.{dat_count, dat_values, set_size, dat_set, IsDatAt}
 use Rattle.schedule_model.specs.Cells.{Cell, Data, Variable}

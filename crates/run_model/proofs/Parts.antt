@@ -56,8 +56,13 @@ module _ (b : BoundValue) (m : List ℤ) (s : Store) (holds : Holds b m s) where
   one_row d x ld lx =
       map-map s (λ i. Data (record { dat = d; element = x; component = i })) (numbers (dat_width b d))
       ∙ part (λ i. s (Data (record { dat = d; element = x; component = i }))) m (dat_start b d + x * dat_width b d) (dat_width b d)
-      (omega (arith, row_fits x (dat_width b d) (set_size b.mesh (dat_set b.mesh d)) (dat_width b d) lx (le_refl (dat_width b d)),
-          dats_follow b d (dat_count b.mesh) ld, after_dats b (length b.vars), holds.length))
+      (omega (
+        arith,
+        row_fits x (dat_width b d) (set_size b.mesh (dat_set b.mesh d)) (dat_width b d) lx (le_refl (dat_width b d)),
+        dats_follow b d (dat_count b.mesh) ld,
+        after_dats b (length b.vars),
+        holds.length,
+      ))
       (λ i lt. ap (λ k. get_or m k (pos 0)) (omega arith) ∙ holds.values (Data (record { dat = d; element = x; component = i })) (has_dat b d x i ld lx lt))
 
   rows_from : (d n x : ℕ) → d < dat_count b.mesh → x + n ≤ set_size b.mesh (dat_set b.mesh d)
@@ -70,7 +75,7 @@ module _ (b : BoundValue) (m : List ℤ) (s : Store) (holds : Holds b m s) where
       let next : dat_start b d + (x + 1) * w ≡ p + w = omega arith in
       let all : w + n * w ≡ suc n * w = omega arith in
       map-append s (map (λ i. Data (record { dat = d; element = x; component = i })) (numbers w))
-          (flat_map (λ y. map (λ i. Data (record { dat = d; element = y; component = i })) (numbers w)) (range_with_len (x + 1) n))
+      (flat_map (λ y. map (λ i. Data (record { dat = d; element = y; component = i })) (numbers w)) (range_with_len (x + 1) n))
       ∙ ap₂ (λ k l. k ++ l) (one_row d x ld (omega arith))
       (rows_from d n (x + 1) ld (omega arith) ∙ ap (λ k. take (n * w) (drop k m)) next ∙ ap (take (n * w)) (sym (drop-drop w p m)))
       ∙ sym (take-add w (n * w) (drop p m)) ∙ ap (λ k. take k (drop p m)) all

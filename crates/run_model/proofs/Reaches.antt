@@ -26,10 +26,13 @@ data_is d x n c h =
     let p = and_parts (d == c.dat) ((x == c.element) && nat_lt c.component n) h in
     let q = and_parts (x == c.element) (nat_lt c.component n) p.1 in
     let dats : d ≡ c.dat = eqb-true d c.dat p.0 in
-    let elements : x ≡ c.element = eqb-true x c.element q.0 in
-    (c.component, ltb-true c.component n q.1, sym
-        (ap (λ (f : ℕ). Data (record { dat = f; element = x; component = c.component })) dats
-        ∙ ap (λ (f : ℕ). Data (record { dat = c.dat; element = f; component = c.component })) elements))
+    let elements : x ≡ c.element = eqb-true x c.element q.0 in (
+      c.component,
+      ltb-true c.component n q.1,
+      sym
+          (ap (λ (f : ℕ). Data (record { dat = f; element = x; component = c.component })) dats
+          ∙ ap (λ (f : ℕ). Data (record { dat = c.dat; element = f; component = c.component })) elements),
+    )
 
 module _ (b : BoundValue) (e : ℕ) where
   pub reaches_own : (x : Arg) (i : ℕ) → i < arg_width b x → reaches (entries b) (dat_width b) (var_width b) e (argument_of x) (cell_in (reached b e x) i) ≡ true

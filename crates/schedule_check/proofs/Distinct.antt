@@ -1,5 +1,5 @@
 -- The local meshes of a distributed mesh name no element twice, and the messages of a proper plan are between its ranks.
-use Rattle.std.proofs.Common.{◌≡◌, ◌≢◌, ℕ, Bool, ◌<◌, ◌≤◌, sym, ap, subst, ◌∙◌, arith, List, [], ◌∷◌, length, get_or, map}
+use Rattle.std.proofs.Common.{◌≡◌, ◌≢◌, ℕ, Bool, ◌<◌, ◌≤◌, sym, ap, subst, ◌∙◌, arith, List, [], length, get_or, map}
 use Rattle.std.proofs.lemmas.List.{get_or-map}
 use Rattle.mesh_decl.specs.Mesh.{MeshValue, set_count, set_size}
 use Rattle.mesh_decl.specs.Owners.{perm_in}
@@ -34,7 +34,7 @@ module _ (g : MeshValue) (h : Halos) (meshes : List RankMesh) (d : Distributed g
       let m : (x : RankMesh) × ((e : RankMesh) → get_or meshes r e ≡ x) = element_at meshes r lr in
       let mesh : IsRankMesh g d.owners d.numbers r m.0 = subst (IsRankMesh g d.owners d.numbers r) (m.1 m.0) (d.distributed.are_meshes.ranks r m.0 (there r lr)) in
       let e : get_or (map (λ (x : RankMesh). x.sets.items) meshes) r [] ≡ m.0.sets.items =
-          get_or-map (λ (x : RankMesh). x.sets.items) meshes r m.0 [] lr ∙ ap (λ (x : RankMesh). x.sets.items) (m.1 m.0) in
+      get_or-map (λ (x : RankMesh). x.sets.items) meshes r m.0 [] lr ∙ ap (λ (x : RankMesh). x.sets.items) (m.1 m.0) in
       let n : length m.0.sets.items ≡ set_count g = mesh.sets_count in
       let l : t < length m.0.sets.items = omega arith in
       let s : (x : LocalSet) × ((e : LocalSet) → get_or m.0.sets.items t e ≡ x) = element_at m.0.sets.items t l in
@@ -43,7 +43,7 @@ module _ (g : MeshValue) (h : Halos) (meshes : List RankMesh) (d : Distributed g
       ∙ (get_or-map (λ (x : LocalSet). x.original) m.0.sets.items t s.0 [] l ∙ ap (λ (x : LocalSet). x.original) (s.1 s.0)) in
       subst (λ (z : List ℕ). (j k : ℕ) → j < k → k < length z → get_or z j 0 ≢ get_or z k 0) (sym orig)
       (number_apart (set_size g t) (perm_in d.numbers t) (λ x. owns d.owners t x r) (λ x. imports_execute g d.owners t x r)
-          (λ x. imports_nonexecute g d.owners t x r) s.0.original (d.distributed.are_perms.numbers t lt) is.inverse)
+      (λ x. imports_nonexecute g d.owners t x r) s.0.original (d.distributed.are_perms.numbers t lt) is.inverse)
 
   pub are_distinct : AreDistinct g meshes
   unfolding Apart
@@ -51,7 +51,7 @@ module _ (g : MeshValue) (h : Halos) (meshes : List RankMesh) (d : Distributed g
     sets = λ r l. sets_counted g d.owners d.numbers meshes d.distributed.are_perms d.distributed.are_meshes r (there r l);
     own = λ r t l lt. (let a : own_in (sets_of meshes r) t ≤ executed_in (sets_of meshes r) t = own_within (sets_of meshes r) t in
         let b : executed_in (sets_of meshes r) t ≤ length (originals_in (sets_of meshes r) t) =
-            executed_held g d.owners d.numbers meshes d.distributed.are_perms d.distributed.are_meshes r t (there r l) lt in omega arith);
+        executed_held g d.owners d.numbers meshes d.distributed.are_perms d.distributed.are_meshes r t (there r l) lt in omega arith);
     apart = λ r t j k l lt. apart r t l lt j k;
   }
 

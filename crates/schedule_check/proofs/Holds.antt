@@ -206,7 +206,7 @@ pairs_few t n zero = omega arith
 pairs_few t n (suc m) =
     let h : length (pairs_below t n m) ≤ m * n = pairs_few t n m in
     let a : length (pairs_below t n m ++ map (pair m) (listed n (t m))) ≡ length (pairs_below t n m) + length
-        (map (pair m) (listed n (t m))) = length-append (pairs_below t n m) (map (pair m) (listed n (t m))) in
+    (map (pair m) (listed n (t m))) = length-append (pairs_below t n m) (map (pair m) (listed n (t m))) in
     let b : length (map (pair m) (listed n (t m))) ≡ length (listed n (t m)) = length-map (listed n (t m)) (pair m) in
     let c : length (listed n (t m)) ≤ n = listed_few n (t m) in
     let d : suc m * n ≡ m * n + n = grind arith in

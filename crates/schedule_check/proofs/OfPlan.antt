@@ -101,7 +101,7 @@ module _ (b : BoundValue) (meshes : List RankMesh) (p : PlanValue) (v : Marked) 
         let to : (get_or pairs i no_pair).to ≡ r = sym (get_or-map (λ (q : Pair). q.to) pairs i no_pair 0 lp) ∙ there.1 in
         let n : length p.items ≡ length items = ap (λ (z : List ItemPlanValue). length z) same ∙ length-map items item_plan_of in
         let row : slice_index_or rows k [] ≡ row_of b.mesh meshes (item_plan p k) =
-            cells k (let e : length p.items ≡ length b.trace = proper.items in omega arith) ∙ ap (row_of b.mesh meshes) (plan_same k) in
+        cells k (let e : length p.items ≡ length b.trace = proper.items in omega arith) ∙ ap (row_of b.mesh meshes) (plan_same k) in
         ap (λ z. slice_index (slice_index_or rows k []) z) (m.pairs s r st.1)
         ∙ (ap (λ (z : List ℕ). slice_index z i) row
         ∙ (get_or-map (λ (q : Pair). cells_between b.mesh meshes (item_plan p k).exchange q.from q.to) pairs i no_pair 0 lp

@@ -77,7 +77,7 @@ module _ {F : Type 0} (p : Setup F) (q : Law p) (m : Step → Bool) (st : State 
   -- what a begin leaves, in either case
   keeps_opened : Ready (outline p) m (Begin k r e) → At p m st r k → (x : Frame) (b : State F)
       → Sane b → b.stop ≡ None → b.mail ≡ st.mail → b.output ≡ st.output → b.memories ≡ st.memories → b.variables ≡ st.variables
-          → b.partials ≡ st.partials → b.frames ≡ put3 k r e x st.frames → Each (Recorded p) b.faults
+      → b.partials ≡ st.partials → b.frames ≡ put3 k r e x st.frames → Each (Recorded p) b.faults
       → ((x : Stop F) → Member x st.faults → Member x b.faults)
       → (is_going (seq p.program k) ≡ true → (f : F) → fault p k e (store_at p k) ≡ Some f → Member (record { item = k; element = Some e; fault = f }) b.faults)
       → (is_going (seq p.program k) ≡ true → FrameIs p k e (st.memories r) (fault p k e (store_at p k)) x)
@@ -167,7 +167,7 @@ module _ {F : Type 0} (p : Setup F) (q : Law p) (m : Step → Bool) (st : State 
   ended_value rd c =
       let plan : IsStep (outline p) (End k r e) = rd.planned in
       folded_mark (elements p.program k) (elements p.program k) (λ a. m (End k r a)) (λ a. mark (End k r e) m (End k r a))
-          (λ a. effect p k a (store_at p k) (Data c)) (store_at p k (Data c)) e (omega arith)
+      (λ a. effect p k a (store_at p k) (Data c)) (store_at p k (Data c)) e (omega arith)
       (commutes p q k (store_at p k) (Data c) (free_kind (p.program.kind k) plan.1)) (run_below p k r e plan.3).0 rd.untaken (mark_self (End k r e) m) other_end
 
   ended_part : Ready (outline p) m (End k r e) → (v : VarCell)
@@ -178,8 +178,8 @@ module _ {F : Type 0} (p : Setup F) (q : Law p) (m : Step → Bool) (st : State 
       ⊎_elim
       (λ (y : (p.owner (p.program.set k) e == r) ≡ true).
       folded_mark (elements p.program k) (elements p.program k) (λ a. (p.owner (p.program.set k) a == r) && m (End k r a))
-          (λ a. (p.owner (p.program.set k) a == r) && mark (End k r e) m (End k r a)) (λ a. effect p k a (store_at p k) (Variable v))
-          (unit_at (p.reduces (p.program.site k) v)) e (omega arith)
+      (λ a. (p.owner (p.program.set k) a == r) && mark (End k r e) m (End k r a)) (λ a. effect p k a (store_at p k) (Variable v))
+      (unit_at (p.reduces (p.program.site k) v)) e (omega arith)
       (commutes p q k (store_at p k) (Variable v) (free_kind (p.program.kind k) plan.1)) (run_below p k r e plan.3).0
       (and_right (p.owner (p.program.set k) e == r) (m (End k r e)) rd.untaken)
       (and_from (p.owner (p.program.set k) e == r) (mark (End k r e) m (End k r e)) y (mark_self (End k r e) m))
@@ -187,8 +187,8 @@ module _ {F : Type 0} (p : Setup F) (q : Law p) (m : Step → Bool) (st : State 
       ∙ sym (cond-true (p.owner (p.program.set k) e == r) (effect p k e (store_at p k) (Variable v) (part_at p m r v k)) (part_at p m r v k) y))
       (λ (y : (p.owner (p.program.set k) e == r) ≡ false).
       folded_same (elements p.program k) (λ a. (p.owner (p.program.set k) a == r) && mark (End k r e) m (End k r a))
-          (λ a. (p.owner (p.program.set k) a == r) && m (End k r a)) (λ a. effect p k a (store_at p k) (Variable v))
-          (unit_at (p.reduces (p.program.site k) v))
+      (λ a. (p.owner (p.program.set k) a == r) && m (End k r a)) (λ a. effect p k a (store_at p k) (Variable v))
+      (unit_at (p.reduces (p.program.site k) v))
       (λ a le. inl (⊎_elim
       (λ (j : a ≡ e). let foreign : (p.owner (p.program.set k) a == r) ≡ false = subst (λ z. (p.owner (p.program.set k) z == r) ≡ false) (sym j) y in
       and_left (p.owner (p.program.set k) a == r) (mark (End k r e) m (End k r a)) foreign ∙ sym (and_left (p.owner (p.program.set k) a == r) (m (End k r a)) foreign))
@@ -224,8 +224,8 @@ module _ {F : Type 0} (p : Setup F) (q : Law p) (m : Step → Bool) (st : State 
       → (is_going (seq p.program k) ≡ true → (c : DatCell) → b.memories r c ≡ effect p k e (store_at p k) (Data c) (st.memories r c))
       → ((c : DatCell) → is_modified (p.touch k e (Data c)) ≡ false → b.memories r c ≡ st.memories r c)
       → (is_going (seq p.program k) ≡ true → (s : ℕ) (v : VarCell) → s ≡ p.program.site k
-          → b.partials r s v ≡ cond (p.owner (p.program.set k) e == r) (effect p k e (store_at p k) (Variable v) (st.partials r s v))
-          (st.partials r s v))
+      → b.partials r s v ≡ cond (p.owner (p.program.set k) e == r) (effect p k e (store_at p k) (Variable v) (st.partials r s v))
+      (st.partials r s v))
       → ((s : ℕ) (v : VarCell) → (s ≡ p.program.site k → ⊥) → b.partials r s v ≡ st.partials r s v)
       → Inv p (mark (End k r e) m) b
   keeps_closed rd two here b sane stop mail out vars faults frames others other_parts changed kept merges still = record {
@@ -256,8 +256,8 @@ module _ {F : Type 0} (p : Setup F) (q : Law p) (m : Step → Bool) (st : State 
                   (subst (FrameIs p k a (b.memories r) (fault p k a (store_at p k))) (sym (cond-false (same3 k r a k r e) Shut (st.frames k r a) parts.0))
                   (frame_like p k a (st.memories r) (b.memories r) (fault p k a (store_at p k)) (st.frames k r a)
                   (λ c w. kept c (false_from_ne_true (is_modified (p.touch k e (Data c)))
-                      (λ v. two k r a e c t parts.1 (rd.after (Begin k r e) rd.planned begun) rd.untaken ne w v)))
-                      (here.says.frames g a t parts.1)));
+                  (λ v. two k r a e c t parts.1 (rd.after (Begin k r e) rd.planned begun) rd.untaken ne w v)))
+                  (here.says.frames g a t parts.1)));
             };
           },
         ))
@@ -283,8 +283,8 @@ module _ {F : Type 0} (p : Setup F) (q : Law p) (m : Step → Bool) (st : State 
       (λ g c. stays (fault p k e (store_at p k)) refl x j (h g) (Data c) (st.memories r c)) (λ c w. refl)
       (λ g s v y. ⊎_elim
       (λ t. stays (fault p k e (store_at p k)) refl x j (h g) (Variable v) (st.partials r s v)
-          ∙ sym (cond-true (p.owner (p.program.set k) e == r) (effect p k e (store_at p k) (Variable v) (st.partials r s v))
-          (st.partials r s v) t))
+      ∙ sym (cond-true (p.owner (p.program.set k) e == r) (effect p k e (store_at p k) (Variable v) (st.partials r s v))
+      (st.partials r s v) t))
       (λ t. sym (cond-false (p.owner (p.program.set k) e == r) (effect p k e (store_at p k) (Variable v) (st.partials r s v)) (st.partials r s v) t))
       (cases_Bool (p.owner (p.program.set k) e == r)))
       (λ s v y. refl)
@@ -330,7 +330,7 @@ module _ {F : Type 0} (p : Setup F) (q : Law p) (m : Step → Bool) (st : State 
         (λ g c. put_same r cells_back st.memories c ∙ ⊎_elim
         (λ (w : is_modified (p.touch k e (Data c)) ≡ true). cond-true (is_modified (p.touch k e (Data c))) (t (Data c)) (st.memories r c) w ∙ (windows t (fault p k e (store_at p k)) (h g)).0 c w)
         (λ (w : is_modified (p.touch k e (Data c)) ≡ false). cond-false (is_modified (p.touch k e (Data c))) (t (Data c)) (st.memories r c)
-            w ∙ sym (keeps p q k e (store_at p k) (Data c) (st.memories r c) w))
+        w ∙ sym (keeps p q k e (store_at p k) (Data c) (st.memories r c) w))
         (cases_Bool (is_modified (p.touch k e (Data c)))))
         (λ c w. put_same r cells_back st.memories c ∙ cond-false (is_modified (p.touch k e (Data c))) (t (Data c)) (st.memories r c) w)
         (λ g s v y.
@@ -340,8 +340,8 @@ module _ {F : Type 0} (p : Setup F) (q : Law p) (m : Step → Bool) (st : State 
         (λ (o : (p.owner (p.program.set k) e == r) ≡ true).
         cond-true (p.owner (p.program.set k) e == r) (merge_at (p.reduces (p.program.site k) v) (st.partials r (p.program.site k) v) (t (Variable v))) (st.partials r (p.program.site k) v) o
         ∙ (amount_in fr run.0 v (t (Variable v)) (st.partials r (p.program.site k) v)
-            (sym (merge_unit p q (p.reduces (p.program.site k) v) (st.partials r (p.program.site k) v)
-            (inv.sane.parts r (p.program.site k) v))) ((windows t (fault p k e (store_at p k)) (h g)).1 v)
+        (sym (merge_unit p q (p.reduces (p.program.site k) v) (st.partials r (p.program.site k) v)
+        (inv.sane.parts r (p.program.site k) v))) ((windows t (fault p k e (store_at p k)) (h g)).1 v)
         ∙ sym (cond-true (p.owner (p.program.set k) e == r) (effect p k e (store_at p k) (Variable v) (st.partials r (p.program.site k) v)) (st.partials r (p.program.site k) v) o)))
         (λ (o : (p.owner (p.program.set k) e == r) ≡ false).
         cond-false (p.owner (p.program.set k) e == r) (merge_at (p.reduces (p.program.site k) v) (st.partials r (p.program.site k) v) (t (Variable v))) (st.partials r (p.program.site k) v) o

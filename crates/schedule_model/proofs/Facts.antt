@@ -100,8 +100,8 @@ fresh_like p m w r k c same (came e x t) = came e x (same t)
 pub part_like : {F : Type 0} (p : Setup F) (m w : Step → Bool) (r k s : ℕ) (v : VarCell) → ((j e : ℕ) → w (End j r e) ≡ m (End j r e)) → part_value p m r k s v ≡ part_value p w r k s v
 part_like p m w r k s v same = ap (λ x. cond (is_merging (p.program.kind k) && (s == p.program.site k)) x (unit_at (p.reduces s v)))
     (folded_same (elements p.program (source p k)) (λ e. (p.owner (p.program.set (source p k)) e == r) && m (End (source p k) r e))
-        (λ e. (p.owner (p.program.set (source p k)) e == r) && w (End (source p k) r e))
-        (λ e. effect p (source p k) e (store_at p (source p k)) (Variable v)) (unit_at (p.reduces (p.program.site (source p k)) v))
+    (λ e. (p.owner (p.program.set (source p k)) e == r) && w (End (source p k) r e))
+    (λ e. effect p (source p k) e (store_at p (source p k)) (Variable v)) (unit_at (p.reduces (p.program.site (source p k)) v))
     (λ e lt. inl (ap (λ b. (p.owner (p.program.set (source p k)) e == r) && b) (sym (same (source p k) e)))))
 
 pub part_else : {F : Type 0} (p : Setup F) (m : Step → Bool) (r k s : ℕ) (v : VarCell)
@@ -121,8 +121,8 @@ part_none p m r k s v n none = ⊎_elim
     cond-true (is_merging (p.program.kind k) && (s == p.program.site k)) (part_at p m r v (source p k)) (unit_at (p.reduces s v)) t
     ∙ (ap (part_at p m r v) (source_self p k n)
     ∙ (folded_none (elements p.program k) (λ e. (p.owner (p.program.set k) e == r) && m (End k r e))
-        (λ e. effect p k e (store_at p k) (Variable v)) (unit_at (p.reduces (p.program.site k) v))
-        (λ e le. inl (and_right (p.owner (p.program.set k) e == r) (m (End k r e)) (none e)))
+    (λ e. effect p k e (store_at p k) (Variable v)) (unit_at (p.reduces (p.program.site k) v))
+    (λ e le. inl (and_right (p.owner (p.program.set k) e == r) (m (End k r e)) (none e)))
     ∙ ap (λ i. unit_at (p.reduces i v)) (sym (eqb-true s (p.program.site k) (second (is_merging (p.program.kind k)) (s == p.program.site k) t))))))
     (λ (t : (is_merging (p.program.kind k) && (s == p.program.site k)) ≡ false). part_else p m r k s v t)
     (cases_Bool (is_merging (p.program.kind k) && (s == p.program.site k)))
@@ -139,7 +139,7 @@ value_like p m w r k c same = folded_same (elements p.program k) (λ e. m (End k
 pub says_other : {F : Type 0} (p : Setup F) (m w : Step → Bool) (a b : State F) (r k : ℕ)
     → ((s : ℕ) → w (Recv k r s) ≡ true → m (Recv k r s) ≡ true) → ((e : ℕ) → w (Begin k r e) ≡ m (Begin k r e)) → ((j e : ℕ) → w (End j r e) ≡ m (End j r e))
     → b.output ≡ a.output → ((c : DatCell) → b.memories r c ≡ a.memories r c) → ((v : VarCell) → b.variables v ≡ a.variables v)
-        → ((s : ℕ) (v : VarCell) → b.partials r s v ≡ a.partials r s v) → ((e : ℕ) → b.frames k r e ≡ a.frames k r e)
+    → ((s : ℕ) (v : VarCell) → b.partials r s v ≡ a.partials r s v) → ((e : ℕ) → b.frames k r e ≡ a.frames k r e)
     → Says p m a r k → Says p w b r k
 says_other p m w a b r k recv begin end out mem vars part frame h = record {
   told = out ∙ h.told;
@@ -173,15 +173,20 @@ module _ {F : Type 0} (p : Setup F) (q : Law p) (m : Step → Bool) (st : State 
     own o,
     λ e le. ⊎_elim
         (λ (w : is_modified (p.touch k e (Data c)) ≡ true). inl
-            (all (End k r e) (lt, ap is_free fr, inside, and_from (nat_lt e (elements p.program k)) (executes p k r e)
-            (lt-ltb e (elements p.program k) le) (subst (λ x. executes p k x e ≡ true) o (q.lawful.covers k e c fr le w))) refl refl))
+        (all (End k r e) (
+          lt,
+          ap is_free fr,
+          inside,
+          and_from (nat_lt e (elements p.program k)) (executes p k r e)
+              (lt-ltb e (elements p.program k) le) (subst (λ x. executes p k x e ≡ true) o (q.lawful.covers k e c fr le w)),
+        ) refl refl))
         (λ w. inr w) (cases_Bool (is_modified (p.touch k e (Data c)))),
   )
   fresh_before k c fr lt h all (clean i s) =
       let parts : (p.modifies k c.dat ≡ false) × ((stale p k c.dat && not (p.needs k c.dat)) ≡ false) = or_parts (p.modifies k c.dat) (stale p k c.dat && not (p.needs k c.dat)) s in
       let idle : (e : ℕ) → e < elements p.program k → (m (End k r e) ≡ true) ⊎ (is_modified (p.touch k e (Data c)) ≡ false) =
-          λ e le. inr (false_from_ne_true (is_modified (p.touch k e (Data c)))
-          (λ w. false≢true (sym parts.0 ∙ q.lawful.modified k e c fr le w))) in
+      λ e le. inr (false_from_ne_true (is_modified (p.touch k e (Data c)))
+      (λ w. false≢true (sym parts.0 ∙ q.lawful.modified k e c fr le w))) in
       ⊎_elim
       (λ (y : stale p k c.dat ≡ true).
       ⊎_elim

@@ -59,10 +59,12 @@ module _ {F : Type 0} (p : Setup F) (q : Law p) (m : Step → Bool) (st : State 
   fresh_next r lt c (own e) = (own e, inl e)
   fresh_next r lt c (came i x e) = absurd (false≢true (sym ((here r lt).stands.ahead (Recv (suc k) r (owner_of p c)) refl (omega arith)) ∙ e))
   fresh_next r lt c (clean i s) =
-      let parts : (p.modifies k c.dat ≡ false) × ((stale p k c.dat && not (p.needs k c.dat)) ≡ false) = or_parts (p.modifies k c.dat) (stale p k c.dat && not (p.needs k c.dat)) s in
-      (clean i (false_from_ne_true (stale p k c.dat)
-          (λ y. false≢true (sym parts.1 ∙ and_from (stale p k c.dat) (not (p.needs k c.dat)) y
-          (not_from_false (p.needs k c.dat) (no_needs p q k c.dat joins))))), inr parts.0)
+      let parts : (p.modifies k c.dat ≡ false) × ((stale p k c.dat && not (p.needs k c.dat)) ≡ false) = or_parts (p.modifies k c.dat) (stale p k c.dat && not (p.needs k c.dat)) s in (
+        clean i (false_from_ne_true (stale p k c.dat)
+            (λ y. false≢true (sym parts.1 ∙ and_from (stale p k c.dat) (not (p.needs k c.dat)) y
+            (not_from_false (p.needs k c.dat) (no_needs p q k c.dat joins))))),
+        inr parts.0,
+      )
 
   not_reduce_next : is_reduce (p.program.kind (suc k)) ≡ false
   not_reduce_next = by_kind (p.program.kind (suc k)) refl
@@ -197,12 +199,12 @@ module _ {F : Type 0} (p : Setup F) (q : Law p) (m : Step → Bool) (st : State 
         ∙ (folded_merge (elements p.program j) (λ e. (p.owner (p.program.set j) e == n) && m (End j n e)) (λ e. effect p j e (store_at p j) (Variable v))
         (merge_at (op v) (made_below v n)) (unit_at (op v)) (made_below v n)
         (merge_unit p q (op v) (made_below v n)
-            (subst Good (merged_is v n (omega arith))
-            (good_merged p q st inv.sane (op v) (p.program.site j) v n (before v) (good_store p q j going_j (Variable v)))))
+        (subst Good (merged_is v n (omega arith))
+        (good_merged p q st inv.sane (op v) (p.program.site j) v n (before v) (good_store p q j going_j (Variable v)))))
         (λ e x l. merge_amount p q j e (store_at p j) v (made_below v n) x after_free.0 l)
         ∙ folded_union (elements p.program j) (elements p.program j) (λ e. nat_lt (p.owner (p.program.set j) e) n)
-            (λ e. (p.owner (p.program.set j) e == n) && m (End j n e)) (λ e. nat_lt (p.owner (p.program.set j) e) (suc n))
-            (λ e. effect p j e (store_at p j) (Variable v)) (before v)
+        (λ e. (p.owner (p.program.set j) e == n) && m (End j n e)) (λ e. nat_lt (p.owner (p.program.set j) e) (suc n))
+        (λ e. effect p j e (store_at p j) (Variable v)) (before v)
         (omega arith) (commutes p q j (store_at p j) (Variable v) after_free.0) marks))
       where
         marks : (e : ℕ) → e < elements p.program j →
@@ -211,21 +213,27 @@ module _ {F : Type 0} (p : Setup F) (q : Law p) (m : Step → Bool) (st : State 
             ⊎ ((nat_lt (p.owner (p.program.set j) e) n ≡ false)
             × (((p.owner (p.program.set j) e == n) && m (End j n e)) ≡ nat_lt (p.owner (p.program.set j) e) (suc n)))
         marks e l = ⊎_elim
-            (λ (lt : p.owner (p.program.set j) e < n). inl
-                (lt-ltb (p.owner (p.program.set j) e) n lt, and_left (p.owner (p.program.set j) e == n) (m (End j n e))
-                (ne_eqb (p.owner (p.program.set j) e) n (λ i. omega arith)), lt-ltb (p.owner (p.program.set j) e) (suc n) (omega arith)))
+            (λ (lt : p.owner (p.program.set j) e < n). inl (
+              lt-ltb (p.owner (p.program.set j) e) n lt,
+              and_left (p.owner (p.program.set j) e == n) (m (End j n e))
+                  (ne_eqb (p.owner (p.program.set j) e) n (λ i. omega arith)),
+              lt-ltb (p.owner (p.program.set j) e) (suc n) (omega arith),
+            ))
             (λ (ge : n ≤ p.owner (p.program.set j) e). inr (
               le-ltb (p.owner (p.program.set j) e) n ge,
               ⊎_elim
                   (λ (eq : p.owner (p.program.set j) e ≡ n).
-                  let done : m (End j n e) ≡ true = (here n (omega arith)).stands.past (End j n e)
-                      ((let lo : k < p.program.items = low in omega arith), ap is_free after_free.0, omega arith,
-                      and_from (nat_lt e (elements p.program j)) (executes p j n e) (lt-ltb e (elements p.program j) l)
-                      (or_left (p.owner (p.program.set j) e == n) (p.scatters j && p.import_execute n (p.program.set j) e)
-                      (eq-eqb (p.owner (p.program.set j) e) n eq))) refl (omega arith) in
+                  let done : m (End j n e) ≡ true = (here n (omega arith)).stands.past (End j n e) (
+                    (let lo : k < p.program.items = low in omega arith),
+                    ap is_free after_free.0,
+                    omega arith,
+                    and_from (nat_lt e (elements p.program j)) (executes p j n e) (lt-ltb e (elements p.program j) l)
+                        (or_left (p.owner (p.program.set j) e == n) (p.scatters j && p.import_execute n (p.program.set j) e)
+                        (eq-eqb (p.owner (p.program.set j) e) n eq)),
+                  ) refl (omega arith) in
                   and_from (p.owner (p.program.set j) e == n) (m (End j n e)) (eq-eqb (p.owner (p.program.set j) e) n eq) done ∙ sym (lt-ltb (p.owner (p.program.set j) e) (suc n) (omega arith)))
                   (λ (ne : p.owner (p.program.set j) e ≡ n → ⊥). and_left (p.owner (p.program.set j) e == n) (m (End j n e))
-                      (ne_eqb (p.owner (p.program.set j) e) n ne) ∙ sym (le-ltb (p.owner (p.program.set j) e) (suc n) (omega arith)))
+                  (ne_eqb (p.owner (p.program.set j) e) n ne) ∙ sym (le-ltb (p.owner (p.program.set j) e) (suc n) (omega arith)))
                   (cases_eq (p.owner (p.program.set j) e) n),
             ))
             (cases_lt (p.owner (p.program.set j) e) n)
@@ -274,13 +282,13 @@ module _ {F : Type 0} (p : Setup F) (q : Law p) (m : Step → Bool) (st : State 
       let same : loop p.program k (elements p.program k) (gathered p st) ≡ Ran_through t = ap (loop p.program k (elements p.program k)) (gathered_is (ap is_reduce od) g) ∙ ran in
       does_item g Ordered od (inl (subst (λ z. Inv p (mark (Join k) m) (looped p k z st)) (sym same)
       (goes_loop t od g ran n (good_looped p q st inv.sane k (Ran_through t)
-          (subst GoodLoop same (good_loop p q k (gathered p st) (elements p.program k) (ap is_loop od) (omega arith)
-          (good_gathered p q st inv.sane)))))))
+      (subst GoodLoop same (good_loop p q k (gathered p st) (elements p.program k) (ap is_loop od) (omega arith)
+      (good_gathered p q st inv.sane)))))))
   going_case g (breaks_join od h e f t ran n) =
       let same : loop p.program k (elements p.program k) (gathered p st) ≡ Broke e f t = ap (loop p.program k (elements p.program k)) (gathered_is (ap is_reduce od) g) ∙ ran in
       does_item g Ordered od (inr (subst (λ z. Halted p (looped p k z st)) (sym same)
       (halts_at p (record { item = k; element = Some e; fault = f }) t (output_of (seq p.program k)) (looped p k (Broke e f t) st) (suc k)
-          (let l : k < p.program.items = low in omega arith) n refl told)))
+      (let l : k < p.program.items = low in omega arith) n refl told)))
   going_case g (goes_join ho h x o act n) =
       let same : p.program.host k (gathered p st) ≡ Goes x o = ap (p.program.host k) (gathered_is (ap is_reduce ho) g) ∙ act in
       does_item g Host ho (inl (subst (λ z. Inv p (mark (Join k) m) (hosted k z st)) (sym same) (goes_host x o ho g n (good_hosted p q st inv.sane k (Goes x o) same))))
@@ -288,7 +296,7 @@ module _ {F : Type 0} (p : Setup F) (q : Law p) (m : Step → Bool) (st : State 
       let same : p.program.host k (gathered p st) ≡ Halts f = ap (p.program.host k) (gathered_is (ap is_reduce ho) g) ∙ act in
       does_item g Host ho (inr (subst (λ z. Halted p (hosted k z st)) (sym same)
       (halts_at p (record { item = k; element = None; fault = f }) (store_at p k) (output_of (seq p.program k)) (hosted k (Halts f) st)
-          (suc k) (let l : k < p.program.items = low in omega arith) n refl told)))
+      (suc k) (let l : k < p.program.items = low in omega arith) n refl told)))
 
   pub keeps_join : Kept (step p (Join k) st)
   keeps_join = ⊎_elim

@@ -77,8 +77,8 @@ least_more k x (Some w) = ⊎_elim
     ∙ ⊎_elim
     (λ (b : w.item < k).
     ap (λ z. if_before k (Some z)) (sym
-        (cond-true (is_less w x) w x (or_left (nat_lt w.item x.item) ((w.item == x.item) && is_less_element w.element x.element)
-        (lt-ltb w.item x.item (omega arith))))))
+    (cond-true (is_less w x) w x (or_left (nat_lt w.item x.item) ((w.item == x.item) && is_less_element w.element x.element)
+    (lt-ltb w.item x.item (omega arith))))))
     (λ (b : k ≤ w.item).
     cond-false (nat_lt w.item k) (Some w) None (le-ltb w.item k b)
     ∙ sym (cond-false (nat_lt (lesser x (Some w)).item k) (Some (lesser x (Some w))) None (le-ltb (lesser x (Some w)).item k (cond_both (is_less w x) w x (λ z. k ≤ z.item) (λ t. b) (λ t. a)))))

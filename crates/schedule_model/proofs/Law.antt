@@ -52,8 +52,8 @@ module _ {F : Type 0} (p : Setup F) (q : Law p) where
     where
       by_op : (o : Option Reduction) → Reaches o (p.touch k a (Variable v)) → Reaches o (p.touch k b (Variable v))
           → (is_read (p.touch k b (Variable v)) ≡ false) ×
-              ((is_modified (p.touch k b (Variable v)) ≡ false) ⊎
-              ((o : Reduction) × (p.touch k a (Variable v) ≡ Merged o) × (p.touch k b (Variable v) ≡ Merged o)))
+          ((is_modified (p.touch k b (Variable v)) ≡ false) ⊎
+          ((o : Reduction) × (p.touch k a (Variable v) ≡ Merged o) × (p.touch k b (Variable v) ≡ Merged o)))
       by_op None x y = absurd (false≢true (sym x ∙ h))
       by_op (Some o) x y = (ap is_read y, inr (o, x, y))
 

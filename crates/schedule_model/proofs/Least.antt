@@ -46,7 +46,7 @@ asymmetric a b h = false_from_ne_true (is_less b a) (λ t.
     ⊎_elim
     (λ (y : nat_lt b.item a.item ≡ true). let Y : b.item < a.item = ltb-true b.item a.item y in omega arith)
     (λ (y : ((b.item == a.item) && is_less_element b.element a.element) ≡ true). let Y : b.item ≡ a.item =
-        eqb-true b.item a.item (and_parts (b.item == a.item) (is_less_element b.element a.element) y).0 in omega arith)
+    eqb-true b.item a.item (and_parts (b.item == a.item) (is_less_element b.element a.element) y).0 in omega arith)
     (or_cases (nat_lt b.item a.item) ((b.item == a.item) && is_less_element b.element a.element) t))
     (λ (x : ((a.item == b.item) && is_less_element a.element b.element) ≡ true).
     let X : a.item ≡ b.item = eqb-true a.item b.item (and_parts (a.item == b.item) (is_less_element a.element b.element) x).0 in

@@ -35,12 +35,12 @@ trans : {F : Type 0} (w x y : Stop F) (c : At w) (a : At x) (b : At y) → is_le
 unfolding Before
 trans w x y c a b h i = is_before w y c b (⊎_elim
     (λ (l : w.item < x.item). ⊎_elim (λ (m : x.item < y.item). inl (omega arith))
-        (λ (m : (x.item ≡ y.item) × (a.element < b.element)). inl (let e : x.item ≡ y.item = m.0 in omega arith)) (before x y a b i))
+    (λ (m : (x.item ≡ y.item) × (a.element < b.element)). inl (let e : x.item ≡ y.item = m.0 in omega arith)) (before x y a b i))
     (λ (l : (w.item ≡ x.item) × (c.element < a.element)).
     let e : w.item ≡ x.item = l.0 in
     ⊎_elim (λ (m : x.item < y.item). inl (omega arith))
-        (λ (m : (x.item ≡ y.item) × (a.element < b.element)). inr
-        (l.0 ∙ m.0, (let u : c.element < a.element = l.1 in let v : a.element < b.element = m.1 in omega arith))) (before x y a b i))
+    (λ (m : (x.item ≡ y.item) × (a.element < b.element)). inr
+    (l.0 ∙ m.0, (let u : c.element < a.element = l.1 in let v : a.element < b.element = m.1 in omega arith))) (before x y a b i))
     (before w x c a h))
 
 -- what is before y, where x isn't, is before x
@@ -63,9 +63,9 @@ split w x y c a b h n = ⊎_elim
     same_item : is_less w x ≡ false → y.item ≤ x.item → x.item ≡ y.item
     same_item t l = ⊎_elim
         (λ (u : y.item < x.item). absurd
-            (false≢true (sym t ∙ is_before w x c a
-            (⊎_elim (λ (v : w.item < y.item). inl (omega arith))
-            (λ (v : (w.item ≡ y.item) × (c.element < b.element)). inl (let e : w.item ≡ y.item = v.0 in omega arith)) (before w y c b h)))))
+        (false≢true (sym t ∙ is_before w x c a
+        (⊎_elim (λ (v : w.item < y.item). inl (omega arith))
+        (λ (v : (w.item ≡ y.item) × (c.element < b.element)). inl (let e : w.item ≡ y.item = v.0 in omega arith)) (before w y c b h)))))
         (λ (u : x.item ≤ y.item). omega arith)
         (cases_lt y.item x.item)
 

@@ -58,7 +58,7 @@ module _ {F : Type 0} (p : Setup F) (q : Law p) (m : Step → Bool) (st : State 
       (λ j ne. ap (λ b. m (Send j s r) && not b) (mark_else (Recv k r s) m (Recv j r s) (λ i. ne (let e : item (Recv j r s) ≡ k = ap item i in e))))
       (λ j lt. ⊎_elim
       (λ (t : m (Send j s r) ≡ true). and_right (m (Send j s r)) (not (m (Recv j r s)))
-          (not_from_true (m (Recv j r s)) (rd.after (Recv j r s) (inv.right.sound (Send j s r) t) (by_item r refl refl lt))))
+      (not_from_true (m (Recv j r s)) (rd.after (Recv j r s) (inv.right.sound (Send j s r) t) (by_item r refl refl lt))))
       (λ (t : m (Send j s r) ≡ false). and_left (m (Send j s r)) (not (m (Recv j r s))) t)
       (cases_Bool (m (Send j s r))))
 
@@ -115,8 +115,8 @@ module _ {F : Type 0} (p : Setup F) (q : Law p) (m : Step → Bool) (st : State 
   waits : (k r s : ℕ) → Ready (outline p) m (Recv k r s) → (e : ℕ) (c : DatCell) → m (Begin k r e) ≡ true → has_copy p r c ≡ true → is_modified (p.touch k e (Data c)) ≡ false
   waits k r s rd e c t copy = false_from_ne_true (is_modified (p.touch k e (Data c))) (λ w.
       let core : p.core r (p.program.set k) e ≡ true = ⊎_elim (λ z. z)
-          (λ z. absurd (false≢true (sym rd.untaken ∙ inv.right.closed (Begin k r e) (Recv k r s) t rd.planned (received z))))
-          (cases_Bool (p.core r (p.program.set k) e)) in
+      (λ z. absurd (false≢true (sym rd.untaken ∙ inv.right.closed (Begin k r e) (Recv k r s) t rd.planned (received z))))
+      (cases_Bool (p.core r (p.program.set k) e)) in
       let plan : IsStep (outline p) (Begin k r e) = inv.right.sound (Begin k r e) t in
       let run : (e < elements p.program k) × (executes p k r e ≡ true) = run_below p k r e plan.3 in
       q.lawful.imports_other r c plan.2 copy (q.lawful.core_modifies k r e c (free_kind (p.program.kind k) plan.1) plan.2 run.0 run.1 core w))
@@ -224,7 +224,7 @@ module _ {F : Type 0} (p : Setup F) (q : Law p) (m : Step → Bool) (st : State 
   keeps_queue k r s rd here (x ∷ xs) mail right first sane =
       let about : x.about ≡ k = cc in
       subst (λ i. Inv p (mark (Recv k r s) m) (delivered p i r s x xs st)) (sym about)
-          (keeps_message k r s rd x right.0 about here xs mail right.1 (subst (λ i. Sane (delivered p i r s x xs st)) about sane))
+      (keeps_message k r s rd x right.0 about here xs mail right.1 (subst (λ i. Sane (delivered p i r s x xs st)) about sane))
 
   pub keeps_recv : (k r s : ℕ) → Ready (outline p) m (Recv k r s) → Inv p (mark (Recv k r s) m) (step p (Recv k r s) st)
   keeps_recv k r s rd =

@@ -90,8 +90,8 @@ module _ {F : Type 0} (p : Setup F) (q : Law p) (st : State F) (h : Sane st) whe
     variables = h.variables;
     parts = λ a b v. cond_both ((a == r) && (b == p.program.site k))
         (λ v. cond (p.owner (p.program.set k) e == r)
-            (merge_at (p.reduces (p.program.site k) v) (st.partials r (p.program.site k) v) (t (Variable v)))
-            (st.partials r (p.program.site k) v)) (st.partials a b) (λ f. Good (f v))
+        (merge_at (p.reduces (p.program.site k) v) (st.partials r (p.program.site k) v) (t (Variable v)))
+        (st.partials r (p.program.site k) v)) (st.partials a b) (λ f. Good (f v))
         (λ i. good_cond (p.owner (p.program.set k) e == r) (merge_at (p.reduces (p.program.site k) v) (st.partials r (p.program.site k) v) (t (Variable v))) (st.partials r (p.program.site k) v)
         (good_merge p q (p.reduces (p.program.site k) v) (st.partials r (p.program.site k) v) (t (Variable v)) (h.parts r (p.program.site k) v) (g (Variable v))) (h.parts r (p.program.site k) v))
         (λ i. h.parts a b v);
@@ -117,12 +117,22 @@ module _ {F : Type 0} (p : Setup F) (q : Law p) (st : State F) (h : Sane st) whe
   good_gathered (Variable v) = h.variables v
 
   pub good_looped : (k : ℕ) (x : Loop F) → GoodLoop x → Sane (looped p k x st)
-  good_looped k (Broke e f t) g = record
-      { cells = λ r c. good_cond (owner_of p c == r) (t (Data c)) (st.memories r c) (g (Data c)) (h.cells r c); variables =
-      λ v. g (Variable v); parts = h.parts; post = h.post; frames = h.frames }
-  good_looped k (Ran_through t) g = record
-      { cells = λ r c. good_cond (owner_of p c == r) (t (Data c)) (st.memories r c) (g (Data c)) (h.cells r c); variables =
-      λ v. g (Variable v); parts = h.parts; post = h.post; frames = h.frames }
+  good_looped k (Broke e f t) g = record {
+    cells = λ r c. good_cond (owner_of p c == r) (t (Data c)) (st.memories r c) (g (Data c)) (h.cells r c);
+    variables =
+        λ v. g (Variable v);
+    parts = h.parts;
+    post = h.post;
+    frames = h.frames;
+  }
+  good_looped k (Ran_through t) g = record {
+    cells = λ r c. good_cond (owner_of p c == r) (t (Data c)) (st.memories r c) (g (Data c)) (h.cells r c);
+    variables =
+        λ v. g (Variable v);
+    parts = h.parts;
+    post = h.post;
+    frames = h.frames;
+  }
 
   pub good_hosted : (k : ℕ) (x : Hosted F) → p.program.host k (gathered p st) ≡ x → Sane (hosted k x st)
   good_hosted k (Halts f) i = record { cells = h.cells; variables = h.variables; parts = h.parts; post = h.post; frames = h.frames }
@@ -154,6 +164,12 @@ module _ {F : Type 0} (p : Setup F) (q : Law p) (st : State F) (h : Sane st) whe
   sane_step (Join k) plan = good_joined k (least k st.faults)
 
 pub sane_start : {F : Type 0} (p : Setup F) (q : Law p) → Sane (start_state p)
-sane_start p q = record { cells = λ r c. q.lawful.kernels.start_in_range (Data c); variables =
-    λ v. q.lawful.kernels.start_in_range (Variable v); parts = λ r s v. good_unit p q (p.reduces s v); post = λ s r. tt; frames =
-    λ k r e. tt }
+sane_start p q = record {
+  cells = λ r c. q.lawful.kernels.start_in_range (Data c);
+  variables =
+      λ v. q.lawful.kernels.start_in_range (Variable v);
+  parts = λ r s v. good_unit p q (p.reduces s v);
+  post = λ s r. tt;
+  frames =
+      λ k r e. tt;
+}

@@ -91,7 +91,7 @@ module _ (laws : Reductions) {F : Type 0} (run : Store → Ran F) (touch : Cell 
   result (Finished t) (Faulted g) e i h = absurd h
   result (Finished t) (Finished u) e i h =
       ap Finished (λ j c. (let x : t c ≡ effect_of run touch w c (s c) = made t u c e i (touch c) refl (h c)
-          ∙ ap (λ z. unless_faulty (fault_of z) (s c) (made_of run touch w c (touch c) (s c))) (sym i) in x) j)
+      ∙ ap (λ z. unless_faulty (fault_of z) (s c) (made_of run touch w c (touch c) (s c))) (sym i) in x) j)
       ∙ ap (λ z. outcome (fault_of z) (λ c. effect_of run touch w c (s c))) (sym i)
 
   gives_at : run s ≡ outcome (fault_of (run (with_units touch w))) (λ c. effect_of run touch w c (s c))
@@ -150,7 +150,7 @@ module _ (laws : Reductions) where
 
   either : {F G : Type 0} (f : Option F) (g : Option G) (o : Reduction) (v a b : ℤ)
       → unless_faulty f (unless_faulty g v (merged o v b)) (merged o (unless_faulty g v (merged o v b)) a) ≡ unless_faulty g
-          (unless_faulty f v (merged o v a)) (merged o (unless_faulty f v (merged o v a)) b)
+      (unless_faulty f v (merged o v a)) (merged o (unless_faulty f v (merged o v a)) b)
   either None None o v a b = swapped o v a b
   either None (Some g) o v a b = refl
   either (Some f) None o v a b = refl

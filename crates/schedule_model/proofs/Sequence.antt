@@ -207,8 +207,8 @@ module _ {F : Type 0} (p : Setup F) (k : ℕ) where
       let E : s ≡ store_at p k = ap store_of (sym e) in
       let O : o ≡ output_of (seq p.program k) = ap output_of (sym e) in
       halts_join ho (ap is_going e) f (ap (p.program.host k) (sym E) ∙ a)
-          (n ∙ (ap (λ y. Stopped (record { item = k; element = None; fault = f }) y o) E
-          ∙ ap (Stopped (record { item = k; element = None; fault = f }) (store_at p k)) O))
+      (n ∙ (ap (λ y. Stopped (record { item = k; element = None; fault = f }) y o) E
+      ∙ ap (Stopped (record { item = k; element = None; fault = f }) (store_at p k)) O))
 
   join_kind : (x : Kind) → p.program.kind k ≡ x → is_free x ≡ false → (s : Store) (o : List ℕ) → seq p.program k ≡ Going s o → JoinCase p k
   join_kind Free i h s o e = absurd (false≢true (sym h))

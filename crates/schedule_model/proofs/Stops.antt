@@ -46,7 +46,7 @@ ended_at p zero h = absurd (false≢true (sym h))
 ended_at p (suc k) h = ⊎_elim
     (λ (t : is_going (seq p.program k) ≡ true). (k, omega arith, t, h))
     (λ (f : is_going (seq p.program k) ≡ false). let r : (j : ℕ) × (j < k) × (is_going (seq p.program j) ≡ true)
-        × (is_going (seq p.program (suc j)) ≡ false) = ended_at p k f in (r.0, (let lt : r.0 < k = r.1 in omega arith), r.2, r.3))
+    × (is_going (seq p.program (suc j)) ≡ false) = ended_at p k f in (r.0, (let lt : r.0 < k = r.1 in omega arith), r.2, r.3))
     (cases_Bool (is_going (seq p.program k)))
 
 -- the machine has stopped, as the sequential run does
@@ -136,11 +136,11 @@ module _ {F : Type 0} (p : Setup F) (q : Law p) (m : Step → Bool) (st : State 
         least_is k (record { item = j; element = Some e; fault = f }) st.faults lt (inv.kept j (p.owner (p.program.set j) e) e f taken g bad)
         (each_more (Recorded p) (λ y. y.item < k → Beats (record { item = j; element = Some e; fault = f }) y) st.faults (λ y h l. worse j e f g bad none y h) inv.recorded) in
         let over_k : seq p.program k ≡ Stopped (record { item = j; element = Some e; fault = f }) t (output_of (seq p.program j)) =
-            seq_ends p (record { item = j; element = Some e; fault = f }) t (output_of (seq p.program j)) (suc j) k n (omega arith) in
+        seq_ends p (record { item = j; element = Some e; fault = f }) t (output_of (seq p.program j)) (suc j) k n (omega arith) in
         subst (λ z. Halted p (joined p k z st)) (sym found)
         (halts_at p (record { item = j; element = Some e; fault = f }) t (output_of (seq p.program j))
-            (joined p k (Some (record { item = j; element = Some e; fault = f })) st) k (let l : k < p.program.items = low in omega arith)
-            over_k refl (told ∙ ap output_of over_k))
+        (joined p k (Some (record { item = j; element = Some e; fault = f })) st) k (let l : k < p.program.items = low in omega arith)
+        over_k refl (told ∙ ap output_of over_k))
 
     -- the sequential run has ended in an earlier item
     pub fault_case : (j : ℕ) × (j < k) × (is_going (seq p.program j) ≡ true) × (is_going (seq p.program (suc j)) ≡ false) → Halted p (step p (Join k) st)
@@ -149,6 +149,6 @@ module _ {F : Type 0} (p : Setup F) (q : Law p) (m : Step → Bool) (st : State 
         ⊎_elim
         (λ (fr : is_free (p.program.kind h.0) ≡ true). free_fault h.0 h.1 h.2 h.3 (free_kind (p.program.kind h.0) fr) (free_case p q h.0 (free_kind (p.program.kind h.0) fr)))
         (λ (fr : is_free (p.program.kind h.0) ≡ false). absurd
-            (false≢true (sym h.3 ∙ inv.went h.0
-            (rd.after (Join h.0) ((let l : k < p.program.items = low in omega arith), fr) (by_item 0 tt tt lt)))))
+        (false≢true (sym h.3 ∙ inv.went h.0
+        (rd.after (Join h.0) ((let l : k < p.program.items = low in omega arith), fr) (by_item 0 tt tt lt)))))
         (cases_Bool (is_free (p.program.kind h.0)))

@@ -95,7 +95,7 @@ module _ {F : Type 0} (p : Setup F) (q : Law p) where
       owned c =
           (here (owner_of p c) (owner_below p q c)).says.cells going c (own refl)
           ∙ folded_none (elements p.program p.program.items) (λ e. m (End p.program.items (owner_of p c) e))
-              (λ e. effect p p.program.items e (store_at p p.program.items) (Data c)) (store_at p p.program.items (Data c))
+          (λ e. effect p p.program.items e (store_at p p.program.items) (Data c)) (store_at p p.program.items (Data c))
           (λ e le. inl (⊎_elim (λ t. absurd (none_ended (owner_of p c) e t)) (λ t. t) (cases_Bool (m (End p.program.items (owner_of p c) e)))))
 
       held : (v : VarCell) → st.variables v ≡ store_at p p.program.items (Variable v)
@@ -103,8 +103,13 @@ module _ {F : Type 0} (p : Setup F) (q : Law p) where
 
       ends_going : (s : Seq F) → seq p.program p.program.items ≡ s → Agrees p s st
       ends_going (Stopped x t o) e = absurd (false≢true (ap is_going (sym e) ∙ going))
-      ends_going (Going s o) e = (inv.running, (here 0 q.lawful.items.some_rank).says.told ∙ ap output_of e, λ c. owned c
-          ∙ ap (λ z. store_of z (Data c)) e, λ v. held v ∙ ap (λ z. store_of z (Variable v)) e)
+      ends_going (Going s o) e = (
+        inv.running,
+        (here 0 q.lawful.items.some_rank).says.told ∙ ap output_of e,
+        λ c. owned c
+            ∙ ap (λ z. store_of z (Data c)) e,
+        λ v. held v ∙ ap (λ z. store_of z (Variable v)) e,
+      )
 
   whole : (l : List Step) → Accepted (outline p) l → ((pre post : List Step) → l ≡ pre ++ post → Apart p (has pre)) → (post pre : List Step)
       → l ≡ pre ++ post → (st : State F) → Inv p (has pre) st ⊎ Halted p st → Agrees p (sequential p.program) (steps_from p post st)

@@ -122,11 +122,11 @@ module _ (o : Outline) (g : ℕ) where
       (λ r left. DrawnFrom o (put_left r left rest) (marked s m) (drawn_number x) l) i h)
   drawn_once (s ∷ l) (u ∷ n) rest m x h i =
       let both : (s ≡ u) × ((DrawnFrom o rest (marked s m) x l × DrawnFrom o rest (marked u m) x n)
-          ⊎ ((r : ℕ) × (left : List Step) × DrawnFrom o (put_left r left rest) (marked s m) (drawn_number x) l
-          × DrawnFrom o (put_left r left rest) (marked u m) (drawn_number x) n)) =
+      ⊎ ((r : ℕ) × (left : List Step) × DrawnFrom o (put_left r left rest) (marked s m) (drawn_number x) l
+      × DrawnFrom o (put_left r left rest) (marked u m) (drawn_number x) n)) =
       same_take rest s u (turn o rest m x) (DrawnFrom o rest (marked s m) x l) (DrawnFrom o rest (marked u m) x n)
-          (λ r left. DrawnFrom o (put_left r left rest) (marked s m) (drawn_number x) l)
-          (λ r left. DrawnFrom o (put_left r left rest) (marked u m) (drawn_number x) n) h i in
+      (λ r left. DrawnFrom o (put_left r left rest) (marked s m) (drawn_number x) l)
+      (λ r left. DrawnFrom o (put_left r left rest) (marked u m) (drawn_number x) n) h i in
       ap (λ z. z ∷ l) both.0
       ∙ ap (λ z. u ∷ z) (⊎_elim
       (λ (a : DrawnFrom o rest (marked s m) x l × DrawnFrom o rest (marked u m) x n). drawn_once l n rest (marked s m) x a.0 (subst (λ z. DrawnFrom o rest (marked z m) x n) (sym both.0) a.1))
@@ -187,8 +187,8 @@ module _ (o : Outline) (g : ℕ) where
   joins_join m lt = tally_less (λ i. not (o.is_free i) && not (m (Join i))) (λ i. not (o.is_free i) && not (marked (Join (next_join o m)) m (Join i))) (next_join o m) o.items lt
       (first_hit (λ i. not (o.is_free i) && not (m (Join i))) o.items lt)
       (and_right (not (o.is_free (next_join o m))) (not (marked (Join (next_join o m)) m (Join (next_join o m))))
-          (not_from_true (marked (Join (next_join o m)) m (Join (next_join o m)))
-          (or_left (same (Join (next_join o m)) (Join (next_join o m))) (m (Join (next_join o m))) (same_refl (Join (next_join o m))))))
+      (not_from_true (marked (Join (next_join o m)) m (Join (next_join o m)))
+      (or_left (same (Join (next_join o m)) (Join (next_join o m))) (m (Join (next_join o m))) (same_refl (Join (next_join o m))))))
       (λ i ne. ap (λ b. not (o.is_free i) && not (b || m (Join i))) (ne_eqb i (next_join o m) ne))
 
   abbrev steps_left : (ℕ → List Step) → (Step → Bool) → ℕ
@@ -205,19 +205,23 @@ module _ (o : Outline) (g : ℕ) where
   go_on rest m x st n e more (over i none le) = ([], i)
   go_on rest m x st n e more (join i none lt) =
       let tail : (l : List Step) × DrawnFrom o rest (marked (Join (next_join o m)) m) x l = more rest (marked (Join (next_join o m)) m) x (join_stand rest m (next_join o m) st)
-      (let a : suc (joins_left (marked (Join (next_join o m)) m) o.items) ≡ joins_left m o.items = joins_join m lt in omega arith) in
-      (Join (next_join o m) ∷ tail.0, subst
-          (λ z. TakenBy rest (Join (next_join o m)) z (DrawnFrom o rest (marked (Join (next_join o m)) m) x tail.0)
-          (λ r left. DrawnFrom o (put_left r left rest) (marked (Join (next_join o m)) m) (drawn_number x) tail.0)) (sym i) (refl, tail.1))
+      (let a : suc (joins_left (marked (Join (next_join o m)) m) o.items) ≡ joins_left m o.items = joins_join m lt in omega arith) in (
+        Join (next_join o m) ∷ tail.0,
+        subst
+            (λ z. TakenBy rest (Join (next_join o m)) z (DrawnFrom o rest (marked (Join (next_join o m)) m) x tail.0)
+            (λ r left. DrawnFrom o (put_left r left rest) (marked (Join (next_join o m)) m) (drawn_number x) tail.0)) (sym i) (refl, tail.1),
+      )
   go_on rest m x st n e more (go r i lr early free) =
       let h : (s : Step) × (left : List Step) × (rest r ≡ s ∷ left) = has_next rest m r (rest r) refl early in
       let mine : IsStep o h.0 × IsOf h.0 r × (is_join h.0 ≡ false) = own_mine o g r lr (st.past r) h.0 h.1 (st.parts r lr ∙ ap (λ z. st.past r ++ z) h.2) in
       let tail : (l : List Step) × DrawnFrom o (put_left r h.1 rest) (marked h.0 m) (drawn_number x) l =
-          more (put_left r h.1 rest) (marked h.0 m) (drawn_number x) (step_stand rest m r h.0 h.1 lr h.2 st)
+      more (put_left r h.1 rest) (marked h.0 m) (drawn_number x) (step_stand rest m r h.0 h.1 lr h.2 st)
       (let a : joins_left (marked h.0 m) o.items ≡ joins_left m o.items = joins_step m h.0 o.items mine.2 in
-      let b : suc (lengths (put_left r h.1 rest) o.ranks) ≡ lengths rest o.ranks = lengths_put rest r h.0 h.1 o.ranks lr h.2 in omega arith) in
-      (h.0 ∷ tail.0, subst (λ z. TakenBy rest h.0 z (DrawnFrom o rest (marked h.0 m) x tail.0)
-          (λ r left. DrawnFrom o (put_left r left rest) (marked h.0 m) (drawn_number x) tail.0)) (sym i) (h.1, h.2, tail.1))
+      let b : suc (lengths (put_left r h.1 rest) o.ranks) ≡ lengths rest o.ranks = lengths_put rest r h.0 h.1 o.ranks lr h.2 in omega arith) in (
+        h.0 ∷ tail.0,
+        subst (λ z. TakenBy rest h.0 z (DrawnFrom o rest (marked h.0 m) x tail.0)
+            (λ r left. DrawnFrom o (put_left r left rest) (marked h.0 m) (drawn_number x) tail.0)) (sym i) (h.1, h.2, tail.1),
+      )
 
   drawn_all : (n : ℕ) (rest : ℕ → List Step) (m : Step → Bool) (x : ℕ) → Stand o g rest m → steps_left rest m ≡ n → (l : List Step) × DrawnFrom o rest m x l
   drawn_all zero rest m x st e = go_on rest m x st zero e (λ rest1 m1 x1 st1 e1. absurd (omega arith)) (turn_case o g rest m st x)

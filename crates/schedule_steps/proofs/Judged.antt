@@ -18,7 +18,7 @@ module _ (o : Outline) where
   passes : (k s r : ℕ) → (nat_lt k o.items && (o.is_free k && (nat_lt s o.ranks && (nat_lt r o.ranks && o.sends k s r)))) ≡ true → Passes o k s r
   passes k s r h =
       let a : (nat_lt k o.items ≡ true) × ((o.is_free k && (nat_lt s o.ranks && (nat_lt r o.ranks && o.sends k s r))) ≡ true) =
-          and_parts (nat_lt k o.items) (o.is_free k && (nat_lt s o.ranks && (nat_lt r o.ranks && o.sends k s r))) h in
+      and_parts (nat_lt k o.items) (o.is_free k && (nat_lt s o.ranks && (nat_lt r o.ranks && o.sends k s r))) h in
       let b : (o.is_free k ≡ true) × ((nat_lt s o.ranks && (nat_lt r o.ranks && o.sends k s r)) ≡ true) = and_parts (o.is_free k) (nat_lt s o.ranks && (nat_lt r o.ranks && o.sends k s r)) a.1 in
       let c : (nat_lt s o.ranks ≡ true) × ((nat_lt r o.ranks && o.sends k s r) ≡ true) = and_parts (nat_lt s o.ranks) (nat_lt r o.ranks && o.sends k s r) b.1 in
       let d : (nat_lt r o.ranks ≡ true) × (o.sends k s r ≡ true) = and_parts (nat_lt r o.ranks) (o.sends k s r) c.1 in

@@ -28,9 +28,10 @@ has_where b l t h i = subst (λ z. has z t ≡ true) (sym (cond-true b l [] h)) 
 module _ (o : Outline) (g : ℕ) where
   sorted_append : (P Q : Step → Type 0) (a b : List Step) → Sorted o g a → Sorted o g b → Each P a → Each Q b → ((x y : Step) → P x → Q y → Less (key o g x) (key o g y)) → Sorted o g (a ++ b)
   sorted_append P Q [] b sa sb pa qb h = sb
-  sorted_append P Q (x ∷ a) b sa sb pa qb h =
-      (each_append (λ y. Less (key o g x) (key o g y)) a b sa.0 (each_map Q (λ y. Less (key o g x) (key o g y)) b (λ y. h x y pa.0) qb),
-      sorted_append P Q a b sa.1 sb pa.1 qb h)
+  sorted_append P Q (x ∷ a) b sa sb pa qb h = (
+    each_append (λ y. Less (key o g x) (key o g y)) a b sa.0 (each_map Q (λ y. Less (key o g x) (key o g y)) b (λ y. h x y pa.0) qb),
+    sorted_append P Q a b sa.1 sb pa.1 qb h,
+  )
 
   -- the step's key begins so
   abbrev pub Begins : List ℕ → Step → Type 0
@@ -69,8 +70,8 @@ module _ (o : Outline) (g : ℕ) where
     sorted = sorted_append (λ x. (i : ℕ) × (i < n) × Begins (pre ++ (i ∷ [])) x) (Begins (pre ++ (n ∷ []))) (below f n) (f n)
         (layer_below pre f n (λ i lt. h i (omega arith))).sorted (h n (omega arith)).sorted
         (each_below (λ x. (i : ℕ) × (i < n) × Begins (pre ++ (i ∷ [])) x) f n
-            (λ i lt. each_map (Begins (pre ++ (i ∷ []))) (λ x. (i : ℕ) × (i < n) × Begins (pre ++ (i ∷ [])) x) (f i) (λ x px. (i, lt, px))
-            (h i (omega arith)).begins))
+        (λ i lt. each_map (Begins (pre ++ (i ∷ []))) (λ x. (i : ℕ) × (i < n) × Begins (pre ++ (i ∷ [])) x) (f i) (λ x px. (i, lt, px))
+        (h i (omega arith)).begins))
         (h n (omega arith)).begins
         (λ x y px py. less_begins pre px.0 n x y px.1 px.2 py);
     begins = each_append (Begins pre) (below f n) (f n) (layer_below pre f n (λ i lt. h i (omega arith))).begins

@@ -105,7 +105,7 @@ as_long o l acc =
     let all : Accepted o (standard o 1) = accepted o 1 in
     let i : total one l ≤ total one (standard o 1) = no_longer l (standard o 1) (unrepeated l acc.once) (λ t h. all.whole t (planned o l acc l [] (sym (append-nil l)) t h)) in
     let j : total one (standard o 1) ≤ total one l = no_longer (standard o 1) l (unrepeated (standard o 1) all.once)
-        (λ t h. acc.whole t (planned o (standard o 1) all (standard o 1) [] (sym (append-nil (standard o 1))) t h)) in
+    (λ t h. acc.whole t (planned o (standard o 1) all (standard o 1) [] (sym (append-nil (standard o 1))) t h)) in
     let e : total one l ≡ total one (standard o 1) = omega arith in
     length_is l ∙ (e ∙ sym (length_is (standard o 1)))
 

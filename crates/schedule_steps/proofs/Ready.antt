@@ -51,8 +51,8 @@ module _ (o : Outline) (g : ℕ) (rest : ℕ → List Step) (m : Step → Bool) 
   joined j lt plan = ⊎_elim
       (λ t. t)
       (λ (f : m (Join j) ≡ false). absurd
-          (false≢true (sym (first_low open_join o.items j lt)
-          ∙ and_from (not (o.is_free j)) (not (m (Join j))) (not_from_false (o.is_free j) plan.1) (not_from_false (m (Join j)) f))))
+      (false≢true (sym (first_low open_join o.items j lt)
+      ∙ and_from (not (o.is_free j)) (not (m (Join j))) (not_from_false (o.is_free j) plan.1) (not_from_false (m (Join j)) f))))
       (cases_Bool (m (Join j)))
 
   early_join : (t : Step) → is_join t ≡ true → IsStep o t → item t < k → m t ≡ true
@@ -177,20 +177,40 @@ module _ (o : Outline) (g : ℕ) (rest : ℕ → List Step) (m : Step → Bool) 
   least_of (suc n) = ⊎_elim
       (λ (none : (x : ℕ) → x < n → rest x ≡ []). ⊎_elim
       (λ (e : rest n ≡ []). inl (λ x lt. below_suc (λ y. rest y ≡ []) n x none e lt))
-      (λ (b : (i : ℕ) × Next n i). inr
-          (n, b.0, omega arith, b.1, λ x j lt h. below_suc (λ y. Next y j → b.0 ≤ j) n x (λ y l g. absurd (no_next y (none y l) j g))
-          (λ g. (let e : b.0 ≡ j = one_next n b.0 j b.1 g in omega arith)) lt h))
+      (λ (b : (i : ℕ) × Next n i). inr (
+        n,
+        b.0,
+        omega arith,
+        b.1,
+        λ x j lt h. below_suc (λ y. Next y j → b.0 ≤ j) n x (λ y l g. absurd (no_next y (none y l) j g))
+            (λ g. (let e : b.0 ≡ j = one_next n b.0 j b.1 g in omega arith)) lt h,
+      ))
       (next_of n (rest n) refl))
       (λ (a : Least n). ⊎_elim
-      (λ (e : rest n ≡ []). inr (a.0, a.1, (let l : a.0 < n = a.2 in omega arith), a.3,
-          λ x j lt h. below_suc (λ y. Next y j → a.1 ≤ j) n x (λ y l g. a.4 y j l g) (λ g. absurd (no_next n e j g)) lt h))
+      (λ (e : rest n ≡ []). inr (
+        a.0,
+        a.1,
+        (let l : a.0 < n = a.2 in omega arith),
+        a.3,
+        λ x j lt h. below_suc (λ y. Next y j → a.1 ≤ j) n x (λ y l g. a.4 y j l g) (λ g. absurd (no_next n e j g)) lt h,
+      ))
       (λ (b : (i : ℕ) × Next n i). ⊎_elim
-      (λ (lt : b.0 < a.1). inr (n, b.0, omega arith, b.1,
-          λ x j xl h. below_suc (λ y. Next y j → b.0 ≤ j) n x (λ y l g. (let u : a.1 ≤ j = a.4 y j l g in omega arith))
-          (λ g. (let e : b.0 ≡ j = one_next n b.0 j b.1 g in omega arith)) xl h))
-      (λ (ge : a.1 ≤ b.0). inr (a.0, a.1, (let l : a.0 < n = a.2 in omega arith), a.3,
-          λ x j xl h. below_suc (λ y. Next y j → a.1 ≤ j) n x (λ y l g. a.4 y j l g)
-          (λ g. (let e : b.0 ≡ j = one_next n b.0 j b.1 g in omega arith)) xl h))
+      (λ (lt : b.0 < a.1). inr (
+        n,
+        b.0,
+        omega arith,
+        b.1,
+        λ x j xl h. below_suc (λ y. Next y j → b.0 ≤ j) n x (λ y l g. (let u : a.1 ≤ j = a.4 y j l g in omega arith))
+            (λ g. (let e : b.0 ≡ j = one_next n b.0 j b.1 g in omega arith)) xl h,
+      ))
+      (λ (ge : a.1 ≤ b.0). inr (
+        a.0,
+        a.1,
+        (let l : a.0 < n = a.2 in omega arith),
+        a.3,
+        λ x j xl h. below_suc (λ y. Next y j → a.1 ≤ j) n x (λ y l g. a.4 y j l g)
+            (λ g. (let e : b.0 ≡ j = one_next n b.0 j b.1 g in omega arith)) xl h,
+      ))
       (cases_lt b.0 a.1))
       (next_of n (rest n) refl))
       (least_of n)
@@ -277,7 +297,7 @@ module _ (o : Outline) (g : ℕ) (rest : ℕ → List Step) (m : Step → Bool) 
       let some : (y : ℕ) × (y < o.ranks) × CanGo y = progress c first.0 first.1 in
       let there : Among some.0 (numbers (λ r. is_early k (rest r) && not (waits m (rest r))) o.ranks) = listed (λ r. is_early k (rest r) && not (waits m (rest r))) o.ranks some.0 some.1 some.2 in
       let got : (picked (drawn_number x) (numbers (λ r. is_early k (rest r) && not (waits m (rest r))) o.ranks) < o.ranks)
-          × CanGo (picked (drawn_number x) (numbers (λ r. is_early k (rest r) && not (waits m (rest r))) o.ranks)) =
+      × CanGo (picked (drawn_number x) (numbers (λ r. is_early k (rest r) && not (waits m (rest r))) o.ranks)) =
       listed_only (λ r. is_early k (rest r) && not (waits m (rest r))) o.ranks (picked (drawn_number x) (numbers (λ r. is_early k (rest r) && not (waits m (rest r))) o.ranks))
       (pick_among (numbers (λ r. is_early k (rest r) && not (waits m (rest r))) o.ranks) (drawn_number x / 2 ^ 33) some.0 there) in
       ready (picked (drawn_number x) (numbers (λ r. is_early k (rest r) && not (waits m (rest r))) o.ranks)) got.0 got.1

@@ -64,11 +64,11 @@ module _ (o : Outline) (g : ℕ) where
       (below (λ x. where_true (in_group o g k r b c j x) (Begin k r x ∷ [])) (o.count k r)) (below (λ x. where_true (in_group o g k r b c j x) (End k r x ∷ [])) (o.count k r))
       (layer_below o g (k ∷ 2 ∷ r ∷ h ∷ b ∷ c ∷ j ∷ 0 ∷ []) (λ x. where_true (in_group o g k r b c j x) (Begin k r x ∷ [])) (o.count k r)
       (λ x lt. layer_where o g (k ∷ 2 ∷ r ∷ h ∷ b ∷ c ∷ j ∷ 0 ∷ x ∷ []) (in_group o g k r b c j x) (Begin k r x ∷ [])
-          (λ t. one o g (k ∷ 2 ∷ r ∷ h ∷ b ∷ c ∷ j ∷ 0 ∷ x ∷ []) (Begin k r x) [] (key_whole k r h b c j x 0 e (member k r b c j x t)))))
+      (λ t. one o g (k ∷ 2 ∷ r ∷ h ∷ b ∷ c ∷ j ∷ 0 ∷ x ∷ []) (Begin k r x) [] (key_whole k r h b c j x 0 e (member k r b c j x t)))))
       (rest_of o g (k ∷ 2 ∷ r ∷ h ∷ b ∷ c ∷ j ∷ []) 0 1 (below (λ x. where_true (in_group o g k r b c j x) (End k r x ∷ [])) (o.count k r)) (omega arith)
       (layer_below o g (k ∷ 2 ∷ r ∷ h ∷ b ∷ c ∷ j ∷ 1 ∷ []) (λ x. where_true (in_group o g k r b c j x) (End k r x ∷ [])) (o.count k r)
       (λ x lt. layer_where o g (k ∷ 2 ∷ r ∷ h ∷ b ∷ c ∷ j ∷ 1 ∷ x ∷ []) (in_group o g k r b c j x) (End k r x ∷ [])
-          (λ t. one o g (k ∷ 2 ∷ r ∷ h ∷ b ∷ c ∷ j ∷ 1 ∷ x ∷ []) (End k r x) [] (key_whole k r h b c j x 1 e (member k r b c j x t))))))
+      (λ t. one o g (k ∷ 2 ∷ r ∷ h ∷ b ∷ c ∷ j ∷ 1 ∷ x ∷ []) (End k r x) [] (key_whole k r h b c j x 1 e (member k r b c j x t))))))
 
   pub element_layer : (k r : ℕ) → Layer o g (k ∷ 2 ∷ r ∷ []) (element_steps o g k r)
   element_layer k r = layer_below o g (k ∷ 2 ∷ r ∷ []) (λ h. below (λ b. where_true (o.block_colour k r b == h) (block_steps o g k r b)) (blocks o k r)) (above (o.block_colour k r) (blocks o k r))
@@ -113,9 +113,9 @@ module _ (o : Outline) (g : ℕ) where
       (λ c lc. each_below P (λ j. group_steps o g k r b c j) (above (group_of o g k r) (o.count k r))
       (λ j lj. each_append P (below (λ x. where_true (in_group o g k r b c j x) (Begin k r x ∷ [])) (o.count k r)) (below (λ x. where_true (in_group o g k r b c j x) (End k r x ∷ [])) (o.count k r))
       (each_below P (λ x. where_true (in_group o g k r b c j x) (Begin k r x ∷ [])) (o.count k r)
-          (λ x lx. each_where P (in_group o g k r b c j x) (Begin k r x ∷ []) (λ u. ((h x (member k r b c j x u).run).0, tt))))
+      (λ x lx. each_where P (in_group o g k r b c j x) (Begin k r x ∷ []) (λ u. ((h x (member k r b c j x u).run).0, tt))))
       (each_below P (λ x. where_true (in_group o g k r b c j x) (End k r x ∷ [])) (o.count k r)
-          (λ x lx. each_where P (in_group o g k r b c j x) (End k r x ∷ []) (λ u. ((h x (member k r b c j x u).run).1, tt)))))))))
+      (λ x lx. each_where P (in_group o g k r b c j x) (End k r x ∷ []) (λ u. ((h x (member k r b c j x u).run).1, tt)))))))))
 
   each_item : (k : ℕ) → k < o.items → Each (IsStep o) (item_steps o g k)
   each_item k lt = cond_both (o.is_free k) (below (sends_of o k) o.ranks ++ (below (receives_of o k) o.ranks ++ below (element_steps o g k) o.ranks)) (Join k ∷ []) (Each (IsStep o))
@@ -139,28 +139,28 @@ module _ (o : Outline) (g : ℕ) where
       let lt : x < o.count k r = run_below k r x run in
       let lb : o.block k r x < blocks o k r = above_each (o.block k r) (o.count k r) x lt in
       has_below (λ h. below (λ b. where_true (o.block_colour k r b == h) (block_steps o g k r b)) (blocks o k r))
-          (above (o.block_colour k r) (blocks o k r)) (o.block_colour k r (o.block k r x)) t
-          (above_each (o.block_colour k r) (blocks o k r) (o.block k r x) lb)
+      (above (o.block_colour k r) (blocks o k r)) (o.block_colour k r (o.block k r x)) t
+      (above_each (o.block_colour k r) (blocks o k r) (o.block k r x) lb)
       (has_below (λ b. where_true (o.block_colour k r b == o.block_colour k r (o.block k r x)) (block_steps o g k r b)) (blocks o k r) (o.block k r x) t lb
       (has_where (o.block_colour k r (o.block k r x) == o.block_colour k r (o.block k r x)) (block_steps o g k r (o.block k r x)) t
-          (eq-eqb (o.block_colour k r (o.block k r x)) (o.block_colour k r (o.block k r x)) refl)
+      (eq-eqb (o.block_colour k r (o.block k r x)) (o.block_colour k r (o.block k r x)) refl)
       (has_below (λ c. below (λ j. group_steps o g k r (o.block k r x) c j) (above (group_of o g k r) (o.count k r)))
-          (above (o.colour k r) (o.count k r)) (o.colour k r x) t (above_each (o.colour k r) (o.count k r) x lt)
+      (above (o.colour k r) (o.count k r)) (o.colour k r x) t (above_each (o.colour k r) (o.count k r) x lt)
       (has_below (λ j. group_steps o g k r (o.block k r x) (o.colour k r x) j) (above (group_of o g k r) (o.count k r)) (group_of o g k r x) t (above_each (group_of o g k r) (o.count k r) x lt) h))))
 
   pub has_begin : (k r x : ℕ) → runs o k r x ≡ true → has (element_steps o g k r) (Begin k r x) ≡ true
   has_begin k r x run = in_part k r x (Begin k r x) run
       (has_left (below (λ y. where_true (in_group o g k r (o.block k r x) (o.colour k r x) (group_of o g k r x) y) (Begin k r y ∷ []))
-          (o.count k r)) (below (λ y. where_true (in_group o g k r (o.block k r x) (o.colour k r x) (group_of o g k r x) y)
-          (End k r y ∷ [])) (o.count k r)) (Begin k r x)
+      (o.count k r)) (below (λ y. where_true (in_group o g k r (o.block k r x) (o.colour k r x) (group_of o g k r x) y)
+      (End k r y ∷ [])) (o.count k r)) (Begin k r x)
       (has_below (λ y. where_true (in_group o g k r (o.block k r x) (o.colour k r x) (group_of o g k r x) y) (Begin k r y ∷ [])) (o.count k r) x (Begin k r x) (run_below k r x run)
       (has_where (in_group o g k r (o.block k r x) (o.colour k r x) (group_of o g k r x) x) (Begin k r x ∷ []) (Begin k r x) (in_own k r x run) (has_self (Begin k r x)))))
 
   pub has_end : (k r x : ℕ) → runs o k r x ≡ true → has (element_steps o g k r) (End k r x) ≡ true
   has_end k r x run = in_part k r x (End k r x) run
       (has_right (below (λ y. where_true (in_group o g k r (o.block k r x) (o.colour k r x) (group_of o g k r x) y) (Begin k r y ∷ []))
-          (o.count k r)) (below (λ y. where_true (in_group o g k r (o.block k r x) (o.colour k r x) (group_of o g k r x) y)
-          (End k r y ∷ [])) (o.count k r)) (End k r x)
+      (o.count k r)) (below (λ y. where_true (in_group o g k r (o.block k r x) (o.colour k r x) (group_of o g k r x) y)
+      (End k r y ∷ [])) (o.count k r)) (End k r x)
       (has_below (λ y. where_true (in_group o g k r (o.block k r x) (o.colour k r x) (group_of o g k r x) y) (End k r y ∷ [])) (o.count k r) x (End k r x) (run_below k r x run)
       (has_where (in_group o g k r (o.block k r x) (o.colour k r x) (group_of o g k r x) x) (End k r x ∷ []) (End k r x) (in_own k r x run) (has_self (End k r x)))))
 
@@ -184,8 +184,8 @@ module _ (o : Outline) (g : ℕ) where
   whole (End k r e) h = in_free k (End k r e) h.0 h.1 (in_elements k r (End k r e) h.2 (has_end k r e h.3))
   whole (Join k) h = has_below (item_steps o g) o.items k (Join k) h.0
       (subst (λ z. has z (Join k) ≡ true)
-          (sym (cond-false (o.is_free k) (below (sends_of o k) o.ranks ++
-          (below (receives_of o k) o.ranks ++ below (element_steps o g k) o.ranks)) (Join k ∷ []) h.1)) (has_self (Join k)))
+      (sym (cond-false (o.is_free k) (below (sends_of o k) o.ranks ++
+      (below (receives_of o k) o.ranks ++ below (element_steps o g k) o.ranks)) (Join k ∷ []) h.1)) (has_self (Join k)))
 
   pub accepted : Accepted o (standard o g)
   accepted = sorted_accepted o g (standard o g) standard_sorted (each_below (IsStep o) (item_steps o g) o.items each_item) whole

@@ -105,10 +105,12 @@ module _ (o : Outline) (l : List Step) (acc : Accepted o l) where
         (cases_lt j k));
     there = λ j a. ⊎_elim
         (λ b. (has_left pre (Send k s r ∷ []) (Send j s r) (h.there j b).0, unlike pre (Send k s r) (Recv j r s) (λ i. cc) ∙ (h.there j b).1))
-        (λ i. subst (λ z. (has (pre ++ (Send k s r ∷ [])) (Send z s r) ≡ true) × (has (pre ++ (Send k s r ∷ [])) (Recv z r s) ≡ false)) (sym i)
-        (has_at pre (Send k s r) [], unlike pre (Send k s r) (Recv k r s) (λ i. cc)
-            ∙ false_from_ne_true (has pre (Recv k r s))
-            (λ t. new (closed pre (Send k s r ∷ post) e (Recv k r s) (Send k s r) t plan sent))))
+        (λ i. subst (λ z. (has (pre ++ (Send k s r ∷ [])) (Send z s r) ≡ true) × (has (pre ++ (Send k s r ∷ [])) (Recv z r s) ≡ false)) (sym i) (
+          has_at pre (Send k s r) [],
+          unlike pre (Send k s r) (Recv k r s) (λ i. cc)
+              ∙ false_from_ne_true (has pre (Recv k r s))
+              (λ t. new (closed pre (Send k s r ∷ post) e (Recv k r s) (Send k s r) t plan sent)),
+        ))
         (among_push q k j a);
     all = λ j a b. ⊎_elim
         (λ (i : j ≡ k). subst (Among (q ++ (k ∷ []))) (sym i) (among_last q k))

@@ -2,7 +2,7 @@
 use Rattle.std.proofs.Common.{◌≡◌, ℕ, ◌<◌, ◌≤◌, true, sym, subst, ◌∙◌, arith, ⊎_elim, List, length}
 use Rattle.std.proofs.lemmas.Bool.{cases_lt, false≢true}
 use Rattle.std.proofs.lemmas.List.{get_or_past}
-use Rattle.schedule_steps.specs.Outline.{Outline, runs}
+use Rattle.schedule_steps.specs.Outline.{Outline}
 use Rattle.step_judge.specs.Item.{Item, linked}
 use Rattle.step_judge.specs.Marked.{Marked, no_item, item_at}
 use Rattle.step_judge.specs.Kept.{LaidOut}

@@ -1,5 +1,5 @@
 -- Marks are those of a plan.
-use Rattle.std.proofs.Common.{ℕ, ◌*◌, ◌≤◌, ◌/◌, refl, arith}
+use Rattle.std.proofs.Common.{refl, arith}
 use Rattle.schedule_steps.specs.Outline.{Outline}
 use Rattle.schedule_steps.specs.Alike.{AlikeOutlines}
 use Rattle.step_judge.specs.Item.{run_at}

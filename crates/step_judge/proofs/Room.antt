@@ -54,8 +54,8 @@ pub judged_well : (o : Outline) (m : Step → Bool) (s : Step) → Ok tt ≡ jud
 judged_well o m s h = ⊎_elim
     (λ (u : is_step o s ≡ true). ⊎_elim
     (λ (t : m s ≡ true). (let e : Ok tt ≡ Err Repeated = h
-        ∙ (cond-true (is_step o s) (cond (m s) (Err Repeated) (too_early (missing o m s))) (Err NoSuchStep) u
-        ∙ cond-true (m s) (Err Repeated) (too_early (missing o m s)) t) in cc))
+    ∙ (cond-true (is_step o s) (cond (m s) (Err Repeated) (too_early (missing o m s))) (Err NoSuchStep) u
+    ∙ cond-true (m s) (Err Repeated) (too_early (missing o m s)) t) in cc))
     (λ (t : m s ≡ false). (u, t))
     (cases_Bool (m s)))
     (λ (u : is_step o s ≡ false). (let e : Ok tt ≡ Err NoSuchStep = h ∙ cond-false (is_step o s) (cond (m s) (Err Repeated) (too_early (missing o m s))) (Err NoSuchStep) u in cc))
@@ -107,7 +107,7 @@ module _ (v w : Marked) (cells : List (List ℕ)) (n u : ℕ) (s : Step) (room :
         in let f : n + untaken (taken v) room.all < 2 ^ 32 = room.frames in omega arith);
     mail = (let o : mail_step (cells_in cells v) s u ≤ u + room.most = mails_most (cells_in cells v) room.most room.messages s u in
         let g : room.most * untaken (taken w) room.all + room.most ≤ room.most * untaken (taken v) room.all = grows in
-            let f : u + room.most * untaken (taken v) room.all < 2 ^ 64 = room.mail in omega arith);
+        let f : u + room.most * untaken (taken v) room.all < 2 ^ 64 = room.mail in omega arith);
   }
 
 -- the cells of a step's message

@@ -58,11 +58,11 @@ module _ (o : Outline) (planned : (t : Step) → has (standard o 1) t ≡ true �
   well m s h = ⊎_elim
       (λ (u : is_step o s ≡ true). ⊎_elim
       (λ (t : m s ≡ true). (let e : Ok tt ≡ Err Repeated = sym h
-          ∙ (cond-true (is_step o s) (cond (m s) (Err Repeated) (too_early (missing o m s))) (Err NoSuchStep) u
-          ∙ cond-true (m s) (Err Repeated) (too_early (missing o m s)) t) in cc))
+      ∙ (cond-true (is_step o s) (cond (m s) (Err Repeated) (too_early (missing o m s))) (Err NoSuchStep) u
+      ∙ cond-true (m s) (Err Repeated) (too_early (missing o m s)) t) in cc))
       (λ (t : m s ≡ false). and_from (is_step o s) (not (m s) && is_none (missing o m s)) u (and_from (not (m s)) (is_none (missing o m s)) (not_from_false (m s) t)
       (none_of (missing o m s) (sym (cond-true (is_step o s) (cond (m s) (Err Repeated) (too_early (missing o m s))) (Err NoSuchStep) u
-          ∙ cond-false (m s) (Err Repeated) (too_early (missing o m s)) t) ∙ h))))
+      ∙ cond-false (m s) (Err Repeated) (too_early (missing o m s)) t) ∙ h))))
       (cases_Bool (m s)))
       (λ (u : is_step o s ≡ false). (let e : Ok tt ≡ Err NoSuchStep = sym h ∙ cond-false (is_step o s) (cond (m s) (Err Repeated) (too_early (missing o m s))) (Err NoSuchStep) u in cc))
       (cases_Bool (is_step o s))

@@ -167,8 +167,8 @@ module _ (walks_alike : WalksAlike) (kernels_are_one : KernelsAreOne)
       → FromMesh rest input files p r x → FromMesh rest input files p q y → AgreeBut N x y
   meshes_agree N rest alike input files p r q e =
       given_alike (MeshIs input files)
-          (λ text. given (EntriesAre text) (λ es. given (BoundIs p r es) (λ b. given (AccessesAre b) (λ _. rest b))))
-          (λ text. given (EntriesAre text) (λ es. given (BoundIs p q es) (λ b. given (AccessesAre b) (λ _. rest b)))) (AgreeBut N)
+      (λ text. given (EntriesAre text) (λ es. given (BoundIs p r es) (λ b. given (AccessesAre b) (λ _. rest b))))
+      (λ text. given (EntriesAre text) (λ es. given (BoundIs p q es) (λ b. given (AccessesAre b) (λ _. rest b)))) (AgreeBut N)
       (λ s t h k. same_refusals N s t ((mesh_is_one input files).refusals s t h k)) (mesh_is_one input files).apart (mesh_is_one input files).values
       (λ text h. entries_agree N rest alike p r q e text)
 
@@ -218,7 +218,7 @@ module _ (walks_alike : WalksAlike) (kernels_are_one : KernelsAreOne)
       → BoundAnswers rest input files x → BoundAnswers rest input files y → AgreeBut (Lacks input files) x y
   programs_agree rest alike input files =
       given_alike (SourceIs input files) (λ bytes. given (TreeIs bytes) (λ p. given (TypesAre p) (FromMesh rest input files p)))
-          (λ bytes. given (TreeIs bytes) (λ p. given (TypesAre p) (FromMesh rest input files p))) (AgreeBut (Lacks input files))
+      (λ bytes. given (TreeIs bytes) (λ p. given (TypesAre p) (FromMesh rest input files p))) (AgreeBut (Lacks input files))
       (λ s t h k. same_refusals (Lacks input files) s t ((source_is_one input files).refusals s t h k)) (source_is_one input files).apart (source_is_one input files).values
       (λ bytes h. trees_agree (Lacks input files) bytes (λ l. (bytes, h, l)) (λ p. given (TypesAre p) (FromMesh rest input files p)) (types_agree (Lacks input files) rest alike input files))
 
@@ -240,12 +240,12 @@ module _ (walks_alike : WalksAlike) (kernels_are_one : KernelsAreOne)
   translations_agree : (source : List ℕ) (files : Files) → (x y : Answer) → TranslateAnswers source files x → TranslateAnswers source files y → AgreeBut (FileLacks source files) x y
   translations_agree source files =
       given_alike (TextIs source files) _ _ (AgreeBut (FileLacks source files))
-          (λ s t h k. same_refusals (FileLacks source files) s t ((held_is_one SourceBytes source (files source)).refusals s t h k))
+      (λ s t h k. same_refusals (FileLacks source files) s t ((held_is_one SourceBytes source (files source)).refusals s t h k))
       (held_is_one SourceBytes source (files source)).apart (held_is_one SourceBytes source (files source)).values
       (λ bytes h.
       trees_agree (FileLacks source files) bytes (λ l. (bytes, h, l)) (λ p. given (TranslationIs bytes p) (λ out a. a ≡ done out)) (λ p.
       given_alike (TranslationIs bytes p) _ _ (AgreeBut (FileLacks source files))
-          (λ s t h k. same_refusals (FileLacks source files) s t ((translation_is_one one_translation bytes p).refusals s t h k))
+      (λ s t h k. same_refusals (FileLacks source files) s t ((translation_is_one one_translation bytes p).refusals s t h k))
       (translation_is_one one_translation bytes p).apart (translation_is_one one_translation bytes p).values
       (λ out _ x y h k. same_answers (FileLacks source files) x y (h ∙ sym k))))
 
@@ -284,8 +284,8 @@ module _ (walks_alike : WalksAlike) (kernels_are_one : KernelsAreOne)
   pub answers_agree : AnswersAgree
   answers_agree words files =
       given_alike (WordsAre words) (λ c. CommandAnswers c files) (λ c. CommandAnswers c files) (Agree words files) refusals
-          (λ s c h k. let e : Err s ≡ Ok c = sym h ∙ k in let bad : ⊥ = cc in bad)
-          (λ c d h k. let e : Ok c ≡ Ok d = sym h ∙ k in let same : c ≡ d = cc in same) (λ c h. commands_agree words files c h)
+      (λ s c h k. let e : Err s ≡ Ok c = sym h ∙ k in let bad : ⊥ = cc in bad)
+      (λ c d h k. let e : Ok c ≡ Ok d = sym h ∙ k in let same : c ≡ d = cc in same) (λ c h. commands_agree words files c h)
     where
       refusals : (s t : Refusal) → WordsAre words (Err s) → WordsAre words (Err t) → Agree words files (refused s) (refused t)
       refusals s t h k =

@@ -17,7 +17,6 @@ use Rattle.mesh_decl.specs.declared.text.entry.Entry.TheVariants.{One, Many}
 use Rattle.mesh_decl.specs.Spelling.{Named}
 use Rattle.bound_program.specs.declared.refusals.refusals.BindRefusal.TheVariants as refusal
 use Rattle.bound_program.specs.Refusals.{Judged, ◌>>=◌, found_if}
-use Rattle.bound_program.specs.HostExpr.{value}
 use Rattle.bound_program.specs.Values.{VarValue, Line, Print}
 use Rattle.main_declarations.specs.declared.names.walks.Spot.{Spot}
 use Rattle.main_declarations.specs.declared.names.scopes.Cells.{Cells}
@@ -35,7 +34,6 @@ use Rattle.main_declarations.specs.File.{judged_extern, judged_array, judged_top
 use Rattle.loop_bind.specs.Arguments.{with_extern, extern_var, after_global, after_globals, loop_found, site, judged_loop}
 use Rattle.loop_bind.specs.Text.{nested, turning, line_found, declares, judged_call, opened, followed_by, ended, with_counter, judged_bounds, judged_host, judged_hosts}
 use Rattle.loop_bind.specs.Sources.{HasNumbers, IsRead, TopIsRead, HostIsRead, HostsAreRead}
-use Rattle.loop_bind.specs.Bound.{text}
 use Rattle.main_declarations.proofs.Public.{Gives, gives_then, gives_unless}
 use Rattle.loop_bind.proofs.Public.{known-fits}
 use Rattle.answers.proofs.laws.SpelledValues.{Num, zero_num, AllNum, nums_same, VarsNum, vars_push, DatsNum, dats_push, EntryNum, EntriesNum, values_num, array_num}
@@ -139,20 +137,20 @@ module _ (places : List Pos) (cs : List ConstDecl) (es : List Named) (entries : 
   const_in : (in_for is_nested : Bool) (a : Walked) (x : List ℕ) (e : ExprTree) → WalkIn a → HasNumbers e → Gives WalkIn (const_at places in_for is_nested a x e)
   const_in true is_nested a x e w f =
       gives_then (λ (v : Asked). Nums v.value) WalkIn (judged_static places a.declared.names e)
-          (λ v. Ok (does (Fix v None) (behind a (with_turning places a.declared x))))
-          (static_num places a.declared.names w.declared.names e f)
+      (λ v. Ok (does (Fix v None) (behind a (with_turning places a.declared x))))
+      (static_num places a.declared.names w.declared.names e f)
       (λ v i. step_in (Fix v None) a (with_turning places a.declared x) w (name_in a.declared x _ w.declared tt) i)
   const_in false true a x e w f =
       gives_then (λ (v : Asked). Nums v.value) WalkIn (judged_static places a.declared.names e)
-          (λ v. Ok (does (Fix v (Some (length a.declared.vars))) (behind a (with_fixed_later places a.declared x))))
-          (static_num places a.declared.names w.declared.names e f)
+      (λ v. Ok (does (Fix v (Some (length a.declared.vars))) (behind a (with_fixed_later places a.declared x))))
+      (static_num places a.declared.names w.declared.names e f)
       (λ v i. step_in (Fix v (Some (length a.declared.vars))) a (with_fixed_later places a.declared x) w
       (name_in (with_var (unchanging x (pos 0) None) a.declared) x _ (var_in a.declared (unchanging x (pos 0) None) w.declared (zero_num, tt)) tt) i)
   const_in false false a x e w f =
       gives_then Num WalkIn (judged_value places a.declared.names e) (λ z. Ok (behind a (with_fixed places a.declared x z))) (value_is_num places a.declared.names w.declared.names e f)
       (λ z i. behind_in a (with_fixed places a.declared x z) w
-          (name_in (with_var (unchanging x z None) a.declared) x (m.Fixed z (next_cells a.declared false false 1))
-          (var_in a.declared (unchanging x z None) w.declared (i, tt)) i))
+      (name_in (with_var (unchanging x z None) a.declared) x (m.Fixed z (next_cells a.declared false false 1))
+      (var_in a.declared (unchanging x z None) w.declared (i, tt)) i))
 
   changing_in : (k : Declared) (x : List ℕ) (is_array : Bool) (n : ℕ) → In k → In (with_changing places k x is_array n)
   changing_in k x is_array n h =
@@ -223,13 +221,21 @@ module _ (places : List Pos) (cs : List ConstDecl) (es : List Named) (entries : 
   call_in a w (tree.DeclSet at x e l) h =
       declares_in a (judged_set places a.declared w.is_nested at x e) h
       (gives_unless In (set_decl_found places a.declared w.is_nested at e) _
-          (λ none. record { vars = h.declared.vars; dats = h.declared.dats; names =
-          record { file = h.declared.names.file; own = own_in a.declared x.name _ h.declared tt } }))
+      (λ none. record {
+        vars = h.declared.vars;
+        dats = h.declared.dats;
+        names =
+            record { file = h.declared.names.file; own = own_in a.declared x.name _ h.declared tt };
+      }))
   call_in a w (tree.DeclMap at x from to i v l) h =
       declares_in a (judged_map places es a.declared w.is_nested at x from to i v) h
       (gives_unless In (map_decl_found places es a.declared w.is_nested at from to i v) _
-          (λ none. record { vars = h.declared.vars; dats = h.declared.dats; names =
-          record { file = h.declared.names.file; own = own_in a.declared x.name _ h.declared tt } }))
+      (λ none. record {
+        vars = h.declared.vars;
+        dats = h.declared.dats;
+        names =
+            record { file = h.declared.names.file; own = own_in a.declared x.name _ h.declared tt };
+      }))
   call_in a w (tree.DeclDat at x on i u v l) h =
       declares_in a (judged_dat places es a.declared w.is_nested at x on i u v) h
       (gives_unless In (dat_decl_found places es a.declared w.is_nested at on i u v) _
@@ -250,10 +256,10 @@ module _ (places : List Pos) (cs : List ConstDecl) (es : List Named) (entries : 
       (λ k i. step_in (Loop (length a.declared.sites)) a k h i tt)
   call_in a w (tree.Printf at l xs) h =
       gives_unless WalkIn (line_found places cs es at l (length xs) (conversions l.text))
-          (does (Do (Line l.text (map (resolved places a.declared.names) xs))) a) (λ none. step_in _ a a.declared h h.declared tt)
+      (does (Do (Line l.text (map (resolved places a.declared.names) xs))) a) (λ none. step_in _ a a.declared h h.declared tt)
   call_in a w (tree.PrintDat at x l) h =
       gives_unless WalkIn (found_if places (is_none (dat_of (means a.declared.names x.name))) x.at refusal.UnknownDat)
-          (does (Do (Print (or_zero (dat_of (means a.declared.names x.name))) l.text)) a) (λ none. step_in _ a a.declared h h.declared tt)
+      (does (Do (Print (or_zero (dat_of (means a.declared.names x.name))) l.text)) a) (λ none. step_in _ a a.declared h h.declared tt)
 
   -- ---- statements
 
@@ -282,11 +288,11 @@ module _ (places : List Pos) (cs : List ConstDecl) (es : List Named) (entries : 
   bounds_in : (a : Walked) (f : HostForHeaderTree) → WalkIn a → HasNumbers f.from → HasNumbers f.to → Gives Bounds (judged_bounds places cs es a f)
   bounds_in a f h from to =
       gives_then (λ (v : Asked). Nums v.value) Bounds (judged_static places a.declared.names f.from)
-          (λ v. judged_static places (with_counter places cs es a f.name).declared.names f.to >>= λ w. Ok (v, w))
-          (static_num places a.declared.names h.declared.names f.from from)
+      (λ v. judged_static places (with_counter places cs es a f.name).declared.names f.to >>= λ w. Ok (v, w))
+      (static_num places a.declared.names h.declared.names f.from from)
       (λ v i. gives_then (λ (w : Asked). Nums w.value) Bounds
-          (judged_static places (with_counter places cs es a f.name).declared.names f.to) (λ w. Ok (v, w))
-          (static_num places (with_counter places cs es a f.name).declared.names (counter_in a f.name h).declared.names f.to to)
+      (judged_static places (with_counter places cs es a f.name).declared.names f.to) (λ w. Ok (v, w))
+      (static_num places (with_counter places cs es a f.name).declared.names (counter_in a f.name h).declared.names f.to to)
       (λ w j. (i, j)))
 
   mutual
@@ -294,23 +300,23 @@ module _ (places : List Pos) (cs : List ConstDecl) (es : List Named) (entries : 
     host_in a w (tree.HostDeclaration v) h r = declrs_in a w v.is_const v.declrs h r
     host_in a w (tree.HostBlock at hs) h r =
         gives_then WalkIn WalkIn (judged_hosts places cs es (opened places cs es a) (nested w) hs)
-            (λ b. Ok (ended places cs es a (Block b.steps) b)) (hosts_in (opened places cs es a) (nested w) hs (opened_in a h) r)
+        (λ b. Ok (ended places cs es a (Block b.steps) b)) (hosts_in (opened places cs es a) (nested w) hs (opened_in a h) r)
         (λ b i. ended_in a (Block b.steps) b h i i.steps)
     host_in a w (tree.HostEmpty at) h r = h
     host_in a w (tree.HostAssign e) h r = step_in _ a a.declared h h.declared tt
     host_in a w (tree.HostIf at e x) h r =
         gives_then (λ (c : Asked). Nums c.value) WalkIn (judged_static places a.declared.names e)
-            (λ c. judged_host places cs es (opened places cs es a) (nested w) x >>= λ b. Ok
-            (followed_by places cs es a (Choose c (Block b.steps) (Block NoStep)) b))
-            (static_num places a.declared.names h.declared.names e r.0)
+        (λ c. judged_host places cs es (opened places cs es a) (nested w) x >>= λ b. Ok
+        (followed_by places cs es a (Choose c (Block b.steps) (Block NoStep)) b))
+        (static_num places a.declared.names h.declared.names e r.0)
         (λ c u. gives_then WalkIn WalkIn (judged_host places cs es (opened places cs es a) (nested w) x)
-            (λ b. Ok (followed_by places cs es a (Choose c (Block b.steps) (Block NoStep)) b))
-            (host_in (opened places cs es a) (nested w) x (opened_in a h) r.1)
+        (λ b. Ok (followed_by places cs es a (Choose c (Block b.steps) (Block NoStep)) b))
+        (host_in (opened places cs es a) (nested w) x (opened_in a h) r.1)
         (λ b i. followed_in a (Choose c (Block b.steps) (Block NoStep)) b h i (u, i.steps, tt)))
     host_in a w (tree.HostIfElse at e x y) h r =
         gives_then (λ (c : Asked). Nums c.value) WalkIn (judged_static places a.declared.names e)
         (λ c. judged_host places cs es (opened places cs es a) (nested w) x >>= λ b. judged_host places cs es (opened places cs es b)
-            (nested w) y >>= λ d. Ok (followed_by places cs es a (Choose c (Block b.steps) (Block d.steps)) d))
+        (nested w) y >>= λ d. Ok (followed_by places cs es a (Choose c (Block b.steps) (Block d.steps)) d))
         (static_num places a.declared.names h.declared.names e r.0)
         (λ c u. gives_then WalkIn WalkIn (judged_host places cs es (opened places cs es a) (nested w) x)
         (λ b. judged_host places cs es (opened places cs es b) (nested w) y >>= λ d. Ok (followed_by places cs es a (Choose c (Block b.steps) (Block d.steps)) d))
@@ -320,11 +326,11 @@ module _ (places : List Pos) (cs : List ConstDecl) (es : List Named) (entries : 
         (λ d j. followed_in a (Choose c (Block b.steps) (Block d.steps)) d h j (u, i.steps, j.steps))))
     host_in a w (tree.HostFor f x) h r =
         gives_then Bounds WalkIn (judged_bounds places cs es a f)
-            (λ v. judged_host places cs es (with_counter places cs es a f.name) turning x >>= λ b. Ok
-            (ended places cs es a (Repeat v.0 v.1 (Block b.steps)) b)) (bounds_in a f h r.0 r.1)
+        (λ v. judged_host places cs es (with_counter places cs es a f.name) turning x >>= λ b. Ok
+        (ended places cs es a (Repeat v.0 v.1 (Block b.steps)) b)) (bounds_in a f h r.0 r.1)
         (λ v u. gives_then WalkIn WalkIn (judged_host places cs es (with_counter places cs es a f.name) turning x)
-            (λ b. Ok (ended places cs es a (Repeat v.0 v.1 (Block b.steps)) b))
-            (host_in (with_counter places cs es a f.name) turning x (counter_in a f.name h) r.2)
+        (λ b. Ok (ended places cs es a (Repeat v.0 v.1 (Block b.steps)) b))
+        (host_in (with_counter places cs es a f.name) turning x (counter_in a f.name h) r.2)
         (λ b i. ended_in a (Repeat v.0 v.1 (Block b.steps)) b h i (u.0, u.1, i.steps)))
     host_in a w (tree.HostCall c) h r = call_in a w c h
 

@@ -177,20 +177,45 @@ unfolding clap_on_literals
 a_check = refl
 
 a_plan : WordsAre (codes "op2" ∷ codes "plan" ∷ codes "--ranks=08" ∷ codes "s.c" ∷ codes "m" ∷ codes "--parts" ∷ codes "bisect:x" ∷ codes "--block=2" ∷ [])
-    (Ok (OnPlan ShowsPlan (record { stretch = Whole; ranks = 8; parting = ByRule (Bisect (codes "x")); renumber = None; blocks = OfSize 2;
-        schedule = Standard; workers = 1; dumps = false }) (InFiles (codes "s.c") (codes "m"))))
+    (Ok (OnPlan ShowsPlan (record {
+      stretch = Whole;
+      ranks = 8;
+      parting = ByRule (Bisect (codes "x"));
+      renumber = None;
+      blocks = OfSize 2;
+      schedule = Standard;
+      workers = 1;
+      dumps = false;
+    }) (InFiles (codes "s.c") (codes "m"))))
 unfolding clap_on_literals
 a_plan = refl
 
 a_plan_by_growth : WordsAre (codes "op2" ∷ codes "plan" ∷ codes "s.c" ∷ codes "m" ∷ codes "--parts=grow:" ∷ codes "--renumber=pe" ∷ [])
-    (Ok (OnPlan ShowsPlan (record { stretch = Whole; ranks = 1; parting = ByRule (Grow []); renumber = Some (codes "pe"); blocks =
-        OfSize 256; schedule = Standard; workers = 1; dumps = false }) (InFiles (codes "s.c") (codes "m"))))
+    (Ok (OnPlan ShowsPlan (record {
+      stretch = Whole;
+      ranks = 1;
+      parting = ByRule (Grow []);
+      renumber = Some (codes "pe");
+      blocks =
+          OfSize 256;
+      schedule = Standard;
+      workers = 1;
+      dumps = false;
+    }) (InFiles (codes "s.c") (codes "m"))))
 unfolding clap_on_literals
 a_plan_by_growth = refl
 
 a_plan_by_a_file : WordsAre (codes "op2" ∷ codes "plan" ∷ codes "s.c" ∷ codes "m" ∷ codes "--partition=p" ∷ [])
-    (Ok (OnPlan ShowsPlan (record { stretch = Whole; ranks = 1; parting = ByFile (codes "p"); renumber = None; blocks = OfSize 256;
-        schedule = Standard; workers = 1; dumps = false }) (InFiles (codes "s.c") (codes "m"))))
+    (Ok (OnPlan ShowsPlan (record {
+      stretch = Whole;
+      ranks = 1;
+      parting = ByFile (codes "p");
+      renumber = None;
+      blocks = OfSize 256;
+      schedule = Standard;
+      workers = 1;
+      dumps = false;
+    }) (InFiles (codes "s.c") (codes "m"))))
 unfolding clap_on_literals
 a_plan_by_a_file = refl
 
@@ -219,14 +244,32 @@ unfolding clap_on_literals
 one_word_more = refl
 
 a_run_on_ranks : WordsAre (codes "op2" ∷ codes "run" ∷ codes "s.c" ∷ codes "m" ∷ codes "--ranks" ∷ codes "2" ∷ [])
-    (Ok (OnPlan RunsPlan (record { stretch = Whole; ranks = 2; parting = ByRule Block; renumber = None; blocks = OfSize 256; schedule =
-        Standard; workers = 1; dumps = false }) (InFiles (codes "s.c") (codes "m"))))
+    (Ok (OnPlan RunsPlan (record {
+      stretch = Whole;
+      ranks = 2;
+      parting = ByRule Block;
+      renumber = None;
+      blocks = OfSize 256;
+      schedule =
+          Standard;
+      workers = 1;
+      dumps = false;
+    }) (InFiles (codes "s.c") (codes "m"))))
 unfolding clap_on_literals
 a_run_on_ranks = refl
 
 a_run_in_blocks : WordsAre (codes "op2" ∷ codes "run" ∷ codes "s.c" ∷ codes "m" ∷ codes "--block=1" ∷ [])
-    (Ok (OnPlan RunsPlan (record { stretch = Whole; ranks = 1; parting = ByRule Block; renumber = None; blocks = OfSize 1; schedule =
-        Standard; workers = 1; dumps = false }) (InFiles (codes "s.c") (codes "m"))))
+    (Ok (OnPlan RunsPlan (record {
+      stretch = Whole;
+      ranks = 1;
+      parting = ByRule Block;
+      renumber = None;
+      blocks = OfSize 1;
+      schedule =
+          Standard;
+      workers = 1;
+      dumps = false;
+    }) (InFiles (codes "s.c") (codes "m"))))
 unfolding clap_on_literals
 a_run_in_blocks = refl
 
@@ -240,20 +283,46 @@ unfolding clap_on_literals
 a_sample_on_ranks = refl
 
 a_drawn_schedule : WordsAre (codes "op2" ∷ codes "schedule" ∷ codes "s.c" ∷ codes "m" ∷ codes "--seed" ∷ codes "7" ∷ [])
-    (Ok (OnPlan ShowsSchedule (record { stretch = Whole; ranks = 1; parting = ByRule Block; renumber = None; blocks = OfSize 256; schedule =
-        Drawn 7; workers = 1; dumps = false }) (InFiles (codes "s.c") (codes "m"))))
+    (Ok (OnPlan ShowsSchedule (record {
+      stretch = Whole;
+      ranks = 1;
+      parting = ByRule Block;
+      renumber = None;
+      blocks = OfSize 256;
+      schedule =
+          Drawn 7;
+      workers = 1;
+      dumps = false;
+    }) (InFiles (codes "s.c") (codes "m"))))
 unfolding clap_on_literals
 a_drawn_schedule = refl
 
 a_run_by_a_schedule : WordsAre (codes "op2" ∷ codes "run" ∷ codes "s.c" ∷ codes "m" ∷ codes "--schedule" ∷ codes "f" ∷ codes "--dump" ∷ [])
-    (Ok (OnPlan RunsPlan (record { stretch = Whole; ranks = 1; parting = ByRule Block; renumber = None; blocks = OfSize 256; schedule =
-        Written (codes "f"); workers = 1; dumps = true }) (InFiles (codes "s.c") (codes "m"))))
+    (Ok (OnPlan RunsPlan (record {
+      stretch = Whole;
+      ranks = 1;
+      parting = ByRule Block;
+      renumber = None;
+      blocks = OfSize 256;
+      schedule =
+          Written (codes "f");
+      workers = 1;
+      dumps = true;
+    }) (InFiles (codes "s.c") (codes "m"))))
 unfolding clap_on_literals
 a_run_by_a_schedule = refl
 
 a_check_of_a_plan : WordsAre (codes "op2" ∷ codes "check" ∷ codes "s.c" ∷ codes "m" ∷ codes "--plan" ∷ codes "p" ∷ [])
-    (Ok (OnPlan Check (record { stretch = Whole; ranks = 1; parting = ByRule Block; renumber = None; blocks = AsPlanned (codes "p");
-        schedule = Standard; workers = 1; dumps = false }) (InFiles (codes "s.c") (codes "m"))))
+    (Ok (OnPlan Check (record {
+      stretch = Whole;
+      ranks = 1;
+      parting = ByRule Block;
+      renumber = None;
+      blocks = AsPlanned (codes "p");
+      schedule = Standard;
+      workers = 1;
+      dumps = false;
+    }) (InFiles (codes "s.c") (codes "m"))))
 unfolding clap_on_literals
 a_check_of_a_plan = refl
 

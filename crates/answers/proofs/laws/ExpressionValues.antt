@@ -1,5 +1,5 @@
 -- What expressions of a source come to over values of 32 bits, and what names stand for.
-use Rattle.std.proofs.Common.{ℕ, ℤ, not, Bool, true, false, cond, List, Option, Some, None, Ok, Err, if◌then◌else◌, []}
+use Rattle.std.proofs.Common.{ℕ, ℤ, not, Bool, true, false, cond, List, Option, Some, None, Ok, Err, []}
 use Rattle.std.specs.Prelude.{Result, All, IfSome, bytes_eq}
 use Rattle.std.proofs.lemmas.Map.Entries.{All-lookup}
 use Rattle.c_tree.specs.declared.lexer.tokens.Pos.{Pos}
@@ -11,7 +11,6 @@ use Rattle.kernel_model.specs.Numbers.{Value, is_zero, is_settled}
 use Rattle.kernel_model.specs.Operators.{IsNumber}
 use Rattle.kernel_model.specs.Meaning.{and_then, index_in}
 use Rattle.kernel_model.proofs.Public.{operators_stay_in_range}
-use Rattle.mesh_decl.specs.declared.text.entry.Form.TheVariants as form
 use Rattle.bound_program.specs.declared.refusals.refusals.BindRefusal.TheVariants as refusal
 use Rattle.bound_program.specs.Refusals.{found_if}
 use Rattle.bound_program.specs.HostExpr.{value, is_static}

@@ -36,7 +36,6 @@ use Rattle.main_declarations.specs.File.{judged_extern, judged_array, judged_top
 use Rattle.loop_bind.specs.Arguments.{with_extern, extern_var, after_global, after_globals, loop_found, site, judged_loop}
 use Rattle.loop_bind.specs.Text.{nested, turning, line_found, declares, judged_call, opened, followed_by, ended, with_counter, judged_bounds, judged_host, judged_hosts}
 use Rattle.loop_bind.specs.Weights.{started, with_told}
-use Rattle.loop_bind.specs.Bound.{text}
 use Rattle.main_declarations.proofs.Public.{Gives, gives_then, gives_weaker, gives_unless, gives_any}
 use Rattle.checkpoint.specs.Cut.{starts}
 
@@ -139,7 +138,7 @@ module _ (places : List Pos) (cs : List ConstDecl) (es : List Named) where
   file_declr n k c (tree.Plain x) h = one_var n k _ h
   file_declr n k c (tree.Init x e) h =
       gives_then (λ z. Unit {0}) (Few (suc n)) (judged_value places k.names e) (λ z. Ok (with_file_value places cs k c x.name z))
-          (gives_any (judged_value places k.names e)) (λ z u. value_few n k c x.name z h)
+      (gives_any (judged_value places k.names e)) (λ z u. value_few n k c x.name z h)
   file_declr n k c (tree.Array x i) h = one_var n k _ h
 
   file_declrs : (n : ℕ) (k : Declared) (c : Bool) (ds : List DeclrTree) → Few n k → Gives (Few (n + length ds)) (judged_file_declrs places cs k c ds)
@@ -178,16 +177,16 @@ module _ (places : List Pos) (cs : List ConstDecl) (es : List Named) where
   const_few : (n : ℕ) (in_for is_nested : Bool) (a : Walked) (x : List ℕ) (e : ExprTree) → WalkedFew n a → Gives (WalkedFew (suc n)) (const_at places in_for is_nested a x e)
   const_few n true is_nested a x e h =
       gives_then (λ (v : Asked). Unit {0}) (WalkedFew (suc n)) (judged_static places a.declared.names e)
-          (λ v. Ok (does (Fix v None) (behind a (with_turning places a.declared x)))) (gives_any (judged_static places a.declared.names e))
-          (λ v u. more n (suc n) a.declared (omega arith) h)
+      (λ v. Ok (does (Fix v None) (behind a (with_turning places a.declared x)))) (gives_any (judged_static places a.declared.names e))
+      (λ v u. more n (suc n) a.declared (omega arith) h)
   const_few n false true a x e h =
       gives_then (λ (v : Asked). Unit {0}) (WalkedFew (suc n)) (judged_static places a.declared.names e)
-          (λ v. Ok (does (Fix v (Some (length a.declared.vars))) (behind a (with_fixed_later places a.declared x))))
-          (gives_any (judged_static places a.declared.names e)) (λ v u. one_var n a.declared _ h)
+      (λ v. Ok (does (Fix v (Some (length a.declared.vars))) (behind a (with_fixed_later places a.declared x))))
+      (gives_any (judged_static places a.declared.names e)) (λ v u. one_var n a.declared _ h)
   const_few n false false a x e h =
       gives_then (λ (z : ℤ). Unit {0}) (WalkedFew (suc n)) (judged_value places a.declared.names e)
-          (λ z. Ok (behind a (with_fixed places a.declared x z))) (gives_any (judged_value places a.declared.names e))
-          (λ z u. one_var n a.declared _ h)
+      (λ z. Ok (behind a (with_fixed places a.declared x z))) (gives_any (judged_value places a.declared.names e))
+      (λ z u. one_var n a.declared _ h)
 
   declr_few : (n : ℕ) (a : Walked) (w : Spot) (c : Bool) (d : DeclrTree) → WalkedFew n a → Gives (WalkedFew (suc n)) (judged_declr places a w c d)
   declr_few n a w true (tree.Init x e) h = const_few n w.in_for w.is_nested a x.name e h
@@ -260,22 +259,22 @@ module _ (places : List Pos) (cs : List ConstDecl) (es : List Named) where
   by_call n a w (tree.DeclConst at i u g) h =
       declares_few (suc n) a (judged_constant places cs a.declared w.is_nested at i u g)
       (gives_unless (Few (suc n)) (constant_decl_found places a.declared w.is_nested at i u g)
-          (after_constant places cs a.declared g.name.name (file_cells places (means a.declared.names g.name.name)))
+      (after_constant places cs a.declared g.name.name (file_cells places (means a.declared.names g.name.name)))
       (λ none. more n (suc n) (after_constant places cs a.declared g.name.name (file_cells places (means a.declared.names g.name.name)))
-          (omega arith) (constant_few n a.declared g.name.name (file_cells places (means a.declared.names g.name.name)) h)))
+      (omega arith) (constant_few n a.declared g.name.name (file_cells places (means a.declared.names g.name.name)) h)))
   by_call n a w (tree.ParLoop at f l on args) h =
       let j = after_globals es args a.declared in
       gives_then (Few (suc n)) (WalkedFew (suc n)) (judged_loop places es a.declared at f on args) (λ k. Ok (does (Loop (length a.declared.sites)) (behind a k)))
       (gives_unless (Few (suc n)) (loop_found places es j at f on args) (record j { sites = j.sites ++ site places es j at f on args ∷ [] })
-          (λ none. more n (suc n) j (omega arith) (globals_few n a.declared args h)))
+      (λ none. more n (suc n) j (omega arith) (globals_few n a.declared args h)))
       (λ k i. i)
   by_call n a w (tree.Printf at l xs) h =
       gives_unless (WalkedFew (suc n)) (line_found places cs es at l (length xs) (conversions l.text))
-          (does (Do (Line l.text (map (resolved places a.declared.names) xs))) a) (λ none. more n (suc n) a.declared (omega arith) h)
+      (does (Do (Line l.text (map (resolved places a.declared.names) xs))) a) (λ none. more n (suc n) a.declared (omega arith) h)
   by_call n a w (tree.PrintDat at x l) h =
       gives_unless (WalkedFew (suc n)) (found_if places (is_none (dat_of (means a.declared.names x.name))) x.at refusal.UnknownDat)
-          (does (Do (Print (or_zero (dat_of (means a.declared.names x.name))) l.text)) a)
-          (λ none. more n (suc n) a.declared (omega arith) h)
+      (does (Do (Print (or_zero (dat_of (means a.declared.names x.name))) l.text)) a)
+      (λ none. more n (suc n) a.declared (omega arith) h)
 
   -- a call has a token
   call_long : (k : ℕ) (c : OpCallTree) → 0 < length (call k c)
@@ -298,21 +297,21 @@ module _ (places : List Pos) (cs : List ConstDecl) (es : List Named) where
     host_few n k a w (tree.HostBlock at hs) h =
         let l = length-append (hosts (suc k) hs) (sign_at k sign.RightBrace ∷ []) in
         gives_then (WalkedFew (n + length (hosts (suc k) hs))) (WalkedFew (n + length (host k (tree.HostBlock at hs))))
-            (judged_hosts places cs es (opened places cs es a) (nested w) hs) (λ b. Ok (ended places cs es a (Block b.steps) b))
-            (hosts_few n (suc k) (opened places cs es a) (nested w) hs h)
+        (judged_hosts places cs es (opened places cs es a) (nested w) hs) (λ b. Ok (ended places cs es a (Block b.steps) b))
+        (hosts_few n (suc k) (opened places cs es a) (nested w) hs h)
         (λ b i. more (n + length (hosts (suc k) hs)) (n + length (host k (tree.HostBlock at hs))) b.declared (omega (arith, l)) i)
     host_few n k a w (tree.HostEmpty at) h = more n (n + 1) a.declared (omega arith) h
     host_few n k a w (tree.HostAssign e) h = more n (n + length (host k (tree.HostAssign e))) a.declared (omega arith) h
     host_few n k a w (tree.HostIf at e x) h =
         let l = length-append (condition k at e) (host (suc k) x) in
         gives_then (λ (c : Asked). Unit {0}) (WalkedFew (n + length (host k (tree.HostIf at e x))))
-            (judged_static places a.declared.names e)
-            (λ c. judged_host places cs es (opened places cs es a) (nested w) x >>= λ b. Ok
-            (followed_by places cs es a (Choose c (Block b.steps) (Block NoStep)) b)) (gives_any (judged_static places a.declared.names e))
+        (judged_static places a.declared.names e)
+        (λ c. judged_host places cs es (opened places cs es a) (nested w) x >>= λ b. Ok
+        (followed_by places cs es a (Choose c (Block b.steps) (Block NoStep)) b)) (gives_any (judged_static places a.declared.names e))
         (λ c u. gives_then (WalkedFew (n + length (host (suc k) x))) (WalkedFew (n + length (host k (tree.HostIf at e x))))
-            (judged_host places cs es (opened places cs es a) (nested w) x)
-            (λ b. Ok (followed_by places cs es a (Choose c (Block b.steps) (Block NoStep)) b))
-            (host_few n (suc k) (opened places cs es a) (nested w) x h)
+        (judged_host places cs es (opened places cs es a) (nested w) x)
+        (λ b. Ok (followed_by places cs es a (Choose c (Block b.steps) (Block NoStep)) b))
+        (host_few n (suc k) (opened places cs es a) (nested w) x h)
         (λ b i. more (n + length (host (suc k) x)) (n + length (host k (tree.HostIf at e x))) b.declared (omega (arith, l)) i))
     host_few n k a w (tree.HostIfElse at e x y) h =
         let last = word_at k word.Else ∷ host (suc k) y in
@@ -320,24 +319,24 @@ module _ (places : List Pos) (cs : List ConstDecl) (es : List Named) where
         let r = length-append (host (suc k) x) last in
         gives_then (λ (c : Asked). Unit {0}) (WalkedFew (n + length (host k (tree.HostIfElse at e x y)))) (judged_static places a.declared.names e)
         (λ c. judged_host places cs es (opened places cs es a) (nested w) x >>= λ b. judged_host places cs es (opened places cs es b)
-            (nested w) y >>= λ d. Ok (followed_by places cs es a (Choose c (Block b.steps) (Block d.steps)) d))
+        (nested w) y >>= λ d. Ok (followed_by places cs es a (Choose c (Block b.steps) (Block d.steps)) d))
         (gives_any (judged_static places a.declared.names e))
         (λ c u. gives_then (WalkedFew (n + length (host (suc k) x))) (WalkedFew (n + length (host k (tree.HostIfElse at e x y)))) (judged_host places cs es (opened places cs es a) (nested w) x)
         (λ b. judged_host places cs es (opened places cs es b) (nested w) y >>= λ d. Ok (followed_by places cs es a (Choose c (Block b.steps) (Block d.steps)) d))
         (host_few n (suc k) (opened places cs es a) (nested w) x h)
         (λ b i. gives_then (WalkedFew (n + length (host (suc k) x) + length (host (suc k) y)))
-            (WalkedFew (n + length (host k (tree.HostIfElse at e x y)))) (judged_host places cs es (opened places cs es b) (nested w) y)
+        (WalkedFew (n + length (host k (tree.HostIfElse at e x y)))) (judged_host places cs es (opened places cs es b) (nested w) y)
         (λ d. Ok (followed_by places cs es a (Choose c (Block b.steps) (Block d.steps)) d)) (host_few (n + length (host (suc k) x)) (suc k) (opened places cs es b) (nested w) y i)
         (λ d j. more (n + length (host (suc k) x) + length (host (suc k) y)) (n + length (host k (tree.HostIfElse at e x y))) d.declared (omega (arith, l, r)) j)))
     host_few n k a w (tree.HostFor f x) h =
         let l = length-append (host_counter k f) (host (suc k) x) in
         gives_then (λ (r : Asked × Asked). Unit {0}) (WalkedFew (n + length (host k (tree.HostFor f x)))) (judged_bounds places cs es a f)
-            (λ r. judged_host places cs es (with_counter places cs es a f.name) turning x >>= λ b. Ok
-            (ended places cs es a (Repeat r.0 r.1 (Block b.steps)) b)) (gives_any (judged_bounds places cs es a f))
+        (λ r. judged_host places cs es (with_counter places cs es a f.name) turning x >>= λ b. Ok
+        (ended places cs es a (Repeat r.0 r.1 (Block b.steps)) b)) (gives_any (judged_bounds places cs es a f))
         (λ r u. gives_then (WalkedFew (n + length (host (suc k) x))) (WalkedFew (n + length (host k (tree.HostFor f x))))
-            (judged_host places cs es (with_counter places cs es a f.name) turning x)
-            (λ b. Ok (ended places cs es a (Repeat r.0 r.1 (Block b.steps)) b))
-            (host_few n (suc k) (with_counter places cs es a f.name) turning x h)
+        (judged_host places cs es (with_counter places cs es a f.name) turning x)
+        (λ b. Ok (ended places cs es a (Repeat r.0 r.1 (Block b.steps)) b))
+        (host_few n (suc k) (with_counter places cs es a f.name) turning x h)
         (λ b i. more (n + length (host (suc k) x)) (n + length (host k (tree.HostFor f x))) b.declared (omega (arith, l)) i))
     host_few n k a w (tree.HostCall c) h =
         let l = call_long k c in
@@ -348,6 +347,6 @@ module _ (places : List Pos) (cs : List ConstDecl) (es : List Named) where
     hosts_few n k a w (tree.MoreHost x xs) h =
         let l = length-append (host k x) (hosts k xs) in
         gives_then (WalkedFew (n + length (host k x))) (WalkedFew (n + length (hosts k (tree.MoreHost x xs))))
-            (judged_host places cs es a w x) (λ b. judged_hosts places cs es b w xs) (host_few n k a w x h)
+        (judged_host places cs es a w x) (λ b. judged_hosts places cs es b w xs) (host_few n k a w x h)
         (λ b i. walk_more (n + length (host k x) + length (hosts k xs)) (n + length (hosts k (tree.MoreHost x xs)))
-            (judged_hosts places cs es b w xs) (omega (arith, l)) (hosts_few (n + length (host k x)) k b w xs i))
+        (judged_hosts places cs es b w xs) (omega (arith, l)) (hosts_few (n + length (host k x)) k b w xs i))

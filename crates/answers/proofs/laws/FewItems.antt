@@ -7,7 +7,7 @@ use Rattle.c_tree.specs.declared.lexer.tokens.Sign.TheVariants as sign
 use Rattle.c_tree.specs.declared.lexer.tokens.Word.TheVariants as word
 use Rattle.c_tree.specs.Lexed.{Lexes}
 use Rattle.c_tree.specs.Tree.{ProgramTree}
-use Rattle.c_tree.specs.Print.{Mark, sign_at, named_word, vars, tops, hosts, argv_marks, return_marks, main, program}
+use Rattle.c_tree.specs.Print.{Mark, sign_at, named_word, tops, hosts, argv_marks, return_marks, main, program}
 use Rattle.c_tree.specs.Reads.{Reads}
 use Rattle.kernel_model.specs.declared.types.kernels.Resolved.{Resolved}
 use Rattle.mesh_decl.specs.Mesh.{dat_count}
@@ -59,8 +59,8 @@ walked_short n r w h =
     gives_then (λ (u : UnrolledValue). length u.items ≤ max_trace) (IsShort n) (trace w.declared.mesh (happens w)) (λ u. Ok (finished r w.declared u))
     (gives_then (λ (u : UnrolledValue). length u.items ≤ max_trace) (λ (u : UnrolledValue). length u.items ≤ max_trace) (unrolled max_trace (happens w)) _ (unrolled_few max_trace (happens w))
     (λ u f. gives_then (λ v. Unit {0}) (λ (u : UnrolledValue). length u.items ≤ max_trace)
-        (within_weight (weight_of_all w.declared.mesh u.items)) (λ v. Ok u)
-        (gives_any (within_weight (weight_of_all w.declared.mesh u.items))) (λ v t. f)))
+    (within_weight (weight_of_all w.declared.mesh u.items)) (λ v. Ok u)
+    (gives_any (within_weight (weight_of_all w.declared.mesh u.items))) (λ v t. f)))
     (λ u f. let e = told_same u.values w.declared.vars in record { trace = f; declared = omega (arith, h, e) })
 
 text_short : (p : ProgramTree) (r : Resolved) (es : List Named) → Gives (IsShort (length (tops p.tops) + length (hosts 1 p.main.body))) (bound p r es)
@@ -68,7 +68,7 @@ text_short p r es =
     let n = length (tops p.tops) in
     gives_then (WalkedFew (n + length (hosts 1 p.main.body))) (IsShort (n + length (hosts 1 p.main.body))) (text p r es) (unrolled_text r)
     (gives_then (Few n) (WalkedFew (n + length (hosts 1 p.main.body))) (judged_tops p.places r.consts.items es nothing_declared p.tops)
-        (λ k. judged_hosts p.places r.consts.items es (quiet k) outermost p.main.body)
+    (λ k. judged_hosts p.places r.consts.items es (quiet k) outermost p.main.body)
     (gives_more (0 + n) n (judged_tops p.places r.consts.items es nothing_declared p.tops) (omega arith) (tops_few p.places r.consts.items es 0 nothing_declared p.tops (omega arith)))
     (λ k i. hosts_few p.places r.consts.items es n 1 (quiet k) outermost p.main.body i))
     (λ w i. walked_short (n + length (hosts 1 p.main.body)) r w i)
@@ -77,7 +77,7 @@ text_short p r es =
 program_long : (p : ProgramTree) → length (tops p.tops) + length (hosts 1 p.main.body) ≤ length (program p)
 program_long p =
     let last = named_word 0 word.OpExit p.main.exit_at ∷ sign_at 0 sign.LeftParen ∷ sign_at 0 sign.RightParen ∷ sign_at 0 sign.Semicolon
-        ∷ (return_marks p.main.returned ++ sign_at 0 sign.RightBrace ∷ []) in
+    ∷ (return_marks p.main.returned ++ sign_at 0 sign.RightBrace ∷ []) in
     let rest = sign_at 0 sign.RightParen ∷ sign_at 0 sign.LeftBrace ∷ (hosts 1 p.main.body ++ last) in
     let a = length-append (tops p.tops) (main p.main) in
     let b = length-append (argv_marks p.main.argv_has_brackets) rest in

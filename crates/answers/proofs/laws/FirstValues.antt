@@ -7,7 +7,6 @@ use Rattle.kernel_model.specs.declared.types.kernels.Resolved.{Resolved}
 use Rattle.mesh_decl.specs.declared.decl.DatDecl.{DatDecl}
 use Rattle.mesh_decl.specs.Mesh.{dat_values}
 use Rattle.mesh_decl.specs.Spelling.{Named, Spells}
-use Rattle.bound_program.specs.HostExpr.{value}
 use Rattle.bound_program.specs.Limits.{max_trace}
 use Rattle.bound_program.specs.Values.{BoundValue, VarValue, no_var}
 use Rattle.bound_program.specs.Fits.{var_at}

@@ -31,7 +31,6 @@ use Rattle.partition.specs.Parts.{NumbersRefusal, UnknownMap, OwnersRefusal, NoD
 use Rattle.answers.specs.Said.{SaysLex, SaysSource, SaysTypes, SaysTranslation, SaysMesh, SaysBinding, SaysNumbers, SaysPartition, SaysOwners, SaysSchedule, SaysStep, SaysEnd, SaysNext}
 use Rattle.command_words.specs.Words.{Stretch, Whole, Before, From, Parting, ByRule, ByFile, Blocks, OfSize, AsPlanned, Schedule, Standard, Drawn, Written, names_before, names_by, names_in_blocks, names_at}
 use Rattle.answers.specs.Judgements.{IsHeld, Cut, Uncut, BeforeItem, FromText, CutOf, ChosenIs, PartsOf, Colouring, Least, Told, ColouringOf, IsUnplanned, PlanIs, Order, InStandardOrder, BySeed, ByText, OrderOf, StepsOf}
-use Rattle.answers.specs.Endings.{OutOfMemory}
 
 -- ---- refusals
 

@@ -173,7 +173,7 @@ module _ (on_cells : RunsAnswerOnCells) (programs_are_one : ProgramsAreOne) (dum
         steps_agree : (order : Order) → (x y : Answer) → FromOrder b p order x → FromOrder c q order y → x ≡ y
         steps_agree order x y f g =
             given_alike (StepsOf (outline_of b p) (group_of o) order) (λ steps x. x ≡ planned_answer j o.dumps (from b) p steps)
-                (λ steps x. x ≡ planned_answer j o.dumps (from c) q steps) (λ x y. x ≡ y)
+            (λ steps x. x ≡ planned_answer j o.dumps (from c) q steps) (λ x y. x ≡ y)
             (λ r s h k. ap refused (one.refusals r s h k)) one.apart one.values
             (λ steps l x y e f. e ∙ answers steps ∙ sym f)
             x y f (subst (λ z. given (StepsOf z (group_of o) order) (λ steps x. x ≡ planned_answer j o.dumps (from c) q steps) y) (sym outlines_same) g)
@@ -211,7 +211,7 @@ module _ (on_cells : RunsAnswerOnCells) (programs_are_one : ProgramsAreOne) (dum
       owners_agree : (parts : Parts) (x y : Answer) → FromOwners b n parts x → FromOwners c m parts y → x ≡ y
       owners_agree parts =
           given_both (OwnersOf o.ranks b parts) (OwnersOf o.ranks c parts) (λ u. given (ColouringOf o.blocks files) (FromColouring b u n))
-              (λ u. given (ColouringOf o.blocks files) (FromColouring c u m)) (λ x y. x ≡ y)
+          (λ u. given (ColouringOf o.blocks files) (FromColouring c u m)) (λ x y. x ≡ y)
           (λ r s h k. ap refused (owners_once h.0 r s h.2 (subst (λ e. SaysOwners e s) (sym (both (Err h.0) (Err k.0) h.1 k.1)) k.2)))
           (λ r v h k. both (Err h.0) (Ok v) h.1 k)
           (λ u s h k. both (Ok u) (Err k.0) h k.1)

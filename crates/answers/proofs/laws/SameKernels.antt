@@ -30,8 +30,8 @@ module _ (walks_alike : WalksAlike) (kernels_are_one : KernelsAreOne) where
   pub sites_found : (b : BoundValue) (ls : List RKernel) → map rkernel_of b.kernels ≡ map rkernel_of ls → first_found (site_found b) b.sites ≡ first_found (site_found (with_kernels b ls)) b.sites
   sites_found b ls e =
       same_found (site_found b) (site_found (with_kernels b ls))
-          (λ site. same_by (kernel_at b.kernels site.kernel) (kernel_at ls site.kernel) (kernels_are_one b.kernels ls e site.kernel)
-          (modes_of b site)) b.sites
+      (λ site. same_by (kernel_at b.kernels site.kernel) (kernel_at ls site.kernel) (kernels_are_one b.kernels ls e site.kernel)
+      (modes_of b site)) b.sites
 
 -- what a program's run without ranks printed, and these bytes behind it where it has no fault
 abbrev ran_by : ℕ → List ℕ → Program KernelFault → Answer

@@ -122,40 +122,40 @@ module _ (steps_decide : (o : Outline) (s : Step) → (is_step o s ≡ true) ↔
 
   module _ (one_read : (bytes : List ℕ) (a b : Read) → Reads bytes a → Reads bytes b → a ≡ b)
       (drawn_once : (o : Outline) (g seed : ℕ) (l n : List Step) → IsDrawn o g seed l → IsDrawn o g seed n → l ≡ n) (o : Outline) (g : ℕ)
-      where
-    same_lines : (bytes : List ℕ) (ls ns : List Line) → Reads bytes (Ok ls) → Reads bytes (Ok ns) → ls ≡ ns
-    same_lines bytes ls ns h k = let e : ◌≡◌ {A = Read} (Ok ls) (Ok ns) = one_read bytes (Ok ls) (Ok ns) h k in let same : ls ≡ ns = cc in same
+    where
+      same_lines : (bytes : List ℕ) (ls ns : List Line) → Reads bytes (Ok ls) → Reads bytes (Ok ns) → ls ≡ ns
+      same_lines bytes ls ns h k = let e : ◌≡◌ {A = Read} (Ok ls) (Ok ns) = one_read bytes (Ok ls) (Ok ns) h k in let same : ls ≡ ns = cc in same
 
-    text_apart : (bytes : List ℕ) (r : Refusal) (ls : List Line) → IsTextRefused bytes r → Reads bytes (Ok ls) → ⊥
-    text_apart bytes r ls h k = let e : ◌≡◌ {A = Read} (Err h.0) (Ok ls) = one_read bytes (Err h.0) (Ok ls) h.1 k in let bad : ⊥ = cc in bad
+      text_apart : (bytes : List ℕ) (r : Refusal) (ls : List Line) → IsTextRefused bytes r → Reads bytes (Ok ls) → ⊥
+      text_apart bytes r ls h k = let e : ◌≡◌ {A = Read} (Err h.0) (Ok ls) = one_read bytes (Err h.0) (Ok ls) h.1 k in let bad : ⊥ = cc in bad
 
-    texts_once : (bytes : List ℕ) (r s : Refusal) → IsTextRefused bytes r → IsTextRefused bytes s → r ≡ s
-    texts_once bytes r s h k =
-        let e : ◌≡◌ {A = Read} (Err k.0) (Err h.0) = one_read bytes (Err k.0) (Err h.0) k.1 h.1 in
-        let same : k.0 ≡ h.0 = cc in
-        schedule_once h.0 r s h.2 (subst (λ f. SaysSchedule f s) same k.2)
+      texts_once : (bytes : List ℕ) (r s : Refusal) → IsTextRefused bytes r → IsTextRefused bytes s → r ≡ s
+      texts_once bytes r s h k =
+          let e : ◌≡◌ {A = Read} (Err k.0) (Err h.0) = one_read bytes (Err k.0) (Err h.0) k.1 h.1 in
+          let same : k.0 ≡ h.0 = cc in
+          schedule_once h.0 r s h.2 (subst (λ f. SaysSchedule f s) same k.2)
 
-    text_refusals : (bytes : List ℕ) (r s : Refusal) → StepsOf o g (ByText bytes) (Err r) → StepsOf o g (ByText bytes) (Err s) → r ≡ s
-    text_refusals bytes r s (inl h) (inl k) = texts_once bytes r s h k
-    text_refusals bytes r s (inl h) (inr k) = absurd (text_apart bytes r k.0 h k.1)
-    text_refusals bytes r s (inr h) (inl k) = absurd (text_apart bytes s h.0 k h.1)
-    text_refusals bytes r s (inr h) (inr k) =
-        steps_once o h.0 (end_line bytes) r s h.2 (subst (λ ls. IsStepRefused o ls (end_line bytes) s) (same_lines bytes k.0 h.0 k.1 h.1) k.2)
+      text_refusals : (bytes : List ℕ) (r s : Refusal) → StepsOf o g (ByText bytes) (Err r) → StepsOf o g (ByText bytes) (Err s) → r ≡ s
+      text_refusals bytes r s (inl h) (inl k) = texts_once bytes r s h k
+      text_refusals bytes r s (inl h) (inr k) = absurd (text_apart bytes r k.0 h k.1)
+      text_refusals bytes r s (inr h) (inl k) = absurd (text_apart bytes s h.0 k h.1)
+      text_refusals bytes r s (inr h) (inr k) =
+          steps_once o h.0 (end_line bytes) r s h.2 (subst (λ ls. IsStepRefused o ls (end_line bytes) s) (same_lines bytes k.0 h.0 k.1 h.1) k.2)
 
-    refused_or_accepted : (bytes : List ℕ) (r : Refusal) (l : List Step) → StepsOf o g (ByText bytes) (Err r) → StepsOf o g (ByText bytes) (Ok l) → ⊥
-    refused_or_accepted bytes r l (inl h) k = text_apart bytes r k.0 h k.1
-    refused_or_accepted bytes r l (inr h) k =
-        not_accepted o h.0 (end_line bytes) r h.2 (subst (Accepted o) (k.2 ∙ ap steps_in (same_lines bytes k.0 h.0 k.1 h.1)) k.3)
+      refused_or_accepted : (bytes : List ℕ) (r : Refusal) (l : List Step) → StepsOf o g (ByText bytes) (Err r) → StepsOf o g (ByText bytes) (Ok l) → ⊥
+      refused_or_accepted bytes r l (inl h) k = text_apart bytes r k.0 h k.1
+      refused_or_accepted bytes r l (inr h) k =
+          not_accepted o h.0 (end_line bytes) r h.2 (subst (Accepted o) (k.2 ∙ ap steps_in (same_lines bytes k.0 h.0 k.1 h.1)) k.3)
 
-    pub steps_are_one : (order : Order) → IsOne (StepsOf o g order)
-    steps_are_one InStandardOrder = told_is_one (standard o g)
-    steps_are_one (BySeed seed) = record {
-      refusals = λ r s h k. absurd h;
-      apart = λ r x h k. h;
-      values = λ x y h k. drawn_once o g seed x y h k;
-    }
-    steps_are_one (ByText bytes) = record {
-      refusals = λ r s h k. text_refusals bytes r s h k;
-      apart = λ r l h k. refused_or_accepted bytes r l h k;
-      values = λ x y h k. h.2 ∙ ap steps_in (same_lines bytes h.0 k.0 h.1 k.1) ∙ sym k.2;
-    }
+      pub steps_are_one : (order : Order) → IsOne (StepsOf o g order)
+      steps_are_one InStandardOrder = told_is_one (standard o g)
+      steps_are_one (BySeed seed) = record {
+        refusals = λ r s h k. absurd h;
+        apart = λ r x h k. h;
+        values = λ x y h k. drawn_once o g seed x y h k;
+      }
+      steps_are_one (ByText bytes) = record {
+        refusals = λ r s h k. text_refusals bytes r s h k;
+        apart = λ r l h k. refused_or_accepted bytes r l h k;
+        values = λ x y h k. h.2 ∙ ap steps_in (same_lines bytes h.0 k.0 h.1 k.1) ∙ sym k.2;
+      }

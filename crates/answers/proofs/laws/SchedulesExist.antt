@@ -123,19 +123,19 @@ module _ (taken_whole : (o : Outline) (m n : Step → Bool) (l : List Step) → 
 
   module _ (drawn : (o : Outline) (g seed : ℕ) → (l : List Step) × IsDrawn o g seed l)
       (some_read : (bytes : List ℕ) → (r : Read) × Reads bytes r) (causes : (bytes : List ℕ) → ¬ Refuses bytes text.OutOfMemory) (g : ℕ)
-      where
-    texts_exist : (bytes : List ℕ) → ¬ ((r : Result (List Step) Refusal) → ¬ StepsOf o g (ByText bytes) r)
-    texts_exist bytes none = by_read (some_read bytes).0 (some_read bytes).1
-      where
-        by_steps : (ls : List Line) → Reads bytes (Ok ls) → Accepted o (steps_in ls) ⊎ ((r : Refusal) × IsStepRefused o ls (end_line bytes) r) → ⊥
-        by_steps ls h (inl a) = none (Ok (steps_in ls)) (ls, h, refl, a)
-        by_steps ls h (inr r) = none (Err r.0) (inr (ls, h, r.1))
+    where
+      texts_exist : (bytes : List ℕ) → ¬ ((r : Result (List Step) Refusal) → ¬ StepsOf o g (ByText bytes) r)
+      texts_exist bytes none = by_read (some_read bytes).0 (some_read bytes).1
+        where
+          by_steps : (ls : List Line) → Reads bytes (Ok ls) → Accepted o (steps_in ls) ⊎ ((r : Refusal) × IsStepRefused o ls (end_line bytes) r) → ⊥
+          by_steps ls h (inl a) = none (Ok (steps_in ls)) (ls, h, refl, a)
+          by_steps ls h (inr r) = none (Err r.0) (inr (ls, h, r.1))
 
-        by_read : (r : Read) → ¬ Reads bytes r
-        by_read (Ok ls) h = by_steps ls h (accepted_or_refused ls (end_line bytes))
-        by_read (Err e) h = let said = schedule_said e (λ m. causes bytes (subst (λ f. Refuses bytes f) m h)) in none (Err said.0) (inl (e, h, said.1))
+          by_read : (r : Read) → ¬ Reads bytes r
+          by_read (Ok ls) h = by_steps ls h (accepted_or_refused ls (end_line bytes))
+          by_read (Err e) h = let said = schedule_said e (λ m. causes bytes (subst (λ f. Refuses bytes f) m h)) in none (Err said.0) (inl (e, h, said.1))
 
-    pub steps_exist : (order : Order) → ¬ ((r : Result (List Step) Refusal) → ¬ StepsOf o g order r)
-    steps_exist InStandardOrder none = none (Ok (standard o g)) refl
-    steps_exist (BySeed seed) none = let d = drawn o g seed in none (Ok d.0) d.1
-    steps_exist (ByText bytes) none = texts_exist bytes none
+      pub steps_exist : (order : Order) → ¬ ((r : Result (List Step) Refusal) → ¬ StepsOf o g order r)
+      steps_exist InStandardOrder none = none (Ok (standard o g)) refl
+      steps_exist (BySeed seed) none = let d = drawn o g seed in none (Ok d.0) d.1
+      steps_exist (ByText bytes) none = texts_exist bytes none

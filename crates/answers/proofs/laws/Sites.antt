@@ -117,9 +117,13 @@ module _ (walk_finds : WalkFinds) (obeys : ObeysUnlessBroken) (one : OneRefusal)
     where
       by_kernel : (o : Option RKernel) → kernel_at b.kernels site.kernel ≡ o → SiteRefuses b site f.rule f.at
       by_kernel None is = absurd (let e : found_by (kernel_at b.kernels site.kernel) (modes_of b site) ≡ Some f = found in let e' : None ≡ Some f = rw is at e in let bad : ⊥ = cc in bad)
-      by_kernel (Some k) is = (k, is, subst (λ o. IsFound o k (modes_of b site))
-          (let e : found_by (kernel_at b.kernels site.kernel) (modes_of b site) ≡ Some f = found in rw is at e)
-          (walk_finds k (modes_of b site)))
+      by_kernel (Some k) is = (
+        k,
+        is,
+        subst (λ o. IsFound o k (modes_of b site))
+            (let e : found_by (kernel_at b.kernels site.kernel) (modes_of b site) ≡ Some f = found in rw is at e)
+            (walk_finds k (modes_of b site)),
+      )
 
   -- among the loops that follow those that are accepted
   accesses_from : (b : BoundValue) (front rest : List SiteValue) → b.sites ≡ front ++ rest → All (SiteObeys b) front → ¬ ((r : Result (Unit {0}) Refusal) → ¬ AccessesAre b r)
@@ -131,8 +135,18 @@ module _ (walk_finds : WalkFinds) (obeys : ObeysUnlessBroken) (one : OneRefusal)
       by_found : (o : Option Breach) → site_found b x ≡ o → (SiteObeys b x → ⊥) → ⊥
       by_found None is on = on (site_obeys b x is)
       by_found (Some f) is on = none (Err (BadAccess (number_of f.rule) f.at))
-          (record { earlier = front; site = x; later = xs; whole = whole; before = h; rule = f.rule; at = f.at; refuses =
-          site_refuses b x f is; says = refl })
+          (record {
+            earlier = front;
+            site = x;
+            later = xs;
+            whole = whole;
+            before = h;
+            rule = f.rule;
+            at = f.at;
+            refuses =
+                site_refuses b x f is;
+            says = refl;
+          })
 
   pub accesses_exist : (b : BoundValue) → ¬ ((r : Result (Unit {0}) Refusal) → ¬ AccessesAre b r)
   accesses_exist b = accesses_from b [] b.sites refl (all_none (SiteObeys b))

@@ -1,9 +1,6 @@
 -- An answer has status 2 only of words, and status 3 only of a missing file.
 use Rattle.std.proofs.Common.{◌≡◌, inl, inr, ℕ, zero, suc, Bool, List, ◌∷◌, ◌++◌, Option, Some, None, Result, Err, refl, sym, ap, ◌∙◌, arith, []}
 use Rattle.std.specs.List.{Contains}
-use Rattle.c_tree.specs.declared.refusals.SourceRefusal.TheVariants as source
-use Rattle.name_resolution.specs.declared.refusals.TypeRefusal.TheVariants as types
-use Rattle.mesh_decl.specs.declared.text.entry.MeshRefusal.TheVariants as mesh
 use Rattle.kernel_model.specs.declared.types.faults.KernelFault.{KernelFault}
 use Rattle.schedule_model.specs.Sequential.{Stop}
 use Rattle.mesh_decl.specs.declared.owners.Owners.{Owners}
@@ -14,7 +11,6 @@ use Rattle.mesh_decl.specs.Canonical.{canonical}
 use Rattle.op_outside.specs.Outside.{Files}
 use Rattle.command_words.specs.Refusal.{SourceBytes, MeshBytes, Refusal}
 use Rattle.command_words.specs.Lines.{Answer, done, refused, faulted}
-use Rattle.schedule_steps.specs.declared.text.refusals.ScheduleTextRefusal.TheVariants as text
 use Rattle.schedule_steps.specs.declared.step.Step.{Step}
 use Rattle.command_words.specs.Words.{ChainJob, CountsChains, RunsChains, ChainOptions, PlanJob, Check, ShowsPlan, ShowsSchedule, RunsPlan, Options, group_of, Input, InFiles, OfSample, Command, OnPlan, OnChains, Converts, Translates, Restores, ShowsUsage, ShowsVersion, judged, names_from, names_before, names_by, names_in_blocks, names_at, names_of}
 use Rattle.answers.specs.Judgements.{TextIs, SourceIs, TreeIs, TranslationIs, RestorationIs, TypesAre, FileIs, MeshIs, EntriesAre, BoundIs, AccessesAre, CutOf, Chosen, ChosenIs, NumbersOf, PartsOf, OwnersOf, ColouringOf, Planned, PlanIs, OrderOf, outline_of, StepsOf}

@@ -16,7 +16,6 @@ use Rattle.mesh_decl.specs.declared.text.entry.Form.{Form}
 use Rattle.mesh_decl.specs.declared.text.entry.Form.TheVariants as form
 use Rattle.mesh_decl.specs.Piece.{IsPiece, IsValue, IsRun}
 use Rattle.mesh_decl.specs.Spelling.{Named, ArePieces, IsEntry, AreEntries, Spells}
-use Rattle.bound_program.specs.HostExpr.{value}
 use Rattle.bound_program.specs.Values.{VarValue}
 use Rattle.main_declarations.specs.declared.names.scopes.Meaning.{Meaning}
 use Rattle.main_declarations.specs.Meanings.{or_none, array_of, array_if, is_extern_array, entry_values, values_named}

@@ -3,7 +3,6 @@
 use Rattle.std.proofs.Common.{◌≡◌, ◌⊎◌, inl, inr, ℕ, List, ◌∷◌, Option, Some, None, IsSome, Ok, Err, refl, sym, ap, ◌∙◌, subst, arith, []}
 use Rattle.std.specs.Prelude.{codes}
 use Rattle.std.specs.List.{Contains}
-use Rattle.mesh_decl.specs.declared.text.entry.MeshRefusal.TheVariants as mesh
 use Rattle.op_outside.specs.Outside.{Files, Rose}
 use Rattle.clap.specs.Walk.{Row, first_of}
 use Rattle.clap.specs.Simple.{matches_of}

@@ -25,7 +25,7 @@ next-apart a d g false q r h x y = grind arith
 before-trans : (f g h : Found) → is_before f g ≡ true → is_before g h ≡ true → is_before f h ≡ true
 before-trans f g h p q =
     next-trans (turn_number f.turn) (turn_number g.turn) (turn_number h.turn) _ _ _
-        (next-trans f.token g.token h.token _ _ _ (λ x y. last (number_of f.refusal) (number_of g.refusal) (number_of h.refusal) x y)) p q
+    (next-trans f.token g.token h.token _ _ _ (λ x y. last (number_of f.refusal) (number_of g.refusal) (number_of h.refusal) x y)) p q
   where
     last : (a b c : ℕ) → nat_lt a b ≡ true → nat_lt b c ≡ true → nat_lt a c ≡ true
     last a b c x y = grind arith
@@ -33,7 +33,7 @@ before-trans f g h p q =
 before-apart : (f g h : Found) → is_before f h ≡ true → is_before g h ≡ false → is_before f g ≡ true
 before-apart f g h p q =
     next-apart (turn_number f.turn) (turn_number g.turn) (turn_number h.turn) _ _ _
-        (next-apart f.token g.token h.token _ _ _ (λ x y. last (number_of f.refusal) (number_of g.refusal) (number_of h.refusal) x y)) p q
+    (next-apart f.token g.token h.token _ _ _ (λ x y. last (number_of f.refusal) (number_of g.refusal) (number_of h.refusal) x y)) p q
   where
     last : (a b c : ℕ) → nat_lt a c ≡ true → nat_lt b c ≡ false → nat_lt a b ≡ true
     last a b c x y = grind arith
@@ -146,7 +146,7 @@ split f g (x ∷ xs) as_ [] bs w p q r s =
     let e : x ≡ g = same_head x g (xs ++ f ∷ as_) bs w in
     let t : xs ++ f ∷ as_ ≡ bs = same_tail x g (xs ++ f ∷ as_) bs w in
     sym (apart g f (subst (λ y. is_before f y ≡ true) e (All-head (λ y. is_before f y ≡ true) x xs p))
-        (at_later (λ y. is_before y g ≡ false) xs f as_ (subst (All (λ y. is_before y g ≡ false)) (sym t) s)))
+    (at_later (λ y. is_before y g ≡ false) xs f as_ (subst (All (λ y. is_before y g ≡ false)) (sym t) s)))
 split f g (x ∷ xs) as_ (y ∷ ys) bs w p q r s =
     split f g xs as_ ys bs (same_tail x y (xs ++ f ∷ as_) (ys ++ g ∷ bs) w) (All-tail (λ z. is_before f z ≡ true) x xs p) q (All-tail (λ z. is_before g z ≡ true) y ys r) s
 

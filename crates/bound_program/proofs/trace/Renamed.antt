@@ -1,5 +1,5 @@
 -- Names that are numbered anew.
-use Rattle.std.proofs.Common.{◌≡◌, ◌∙◌, refl, sym, ap, ◌<◌, ◌+◌, ◌≤◌, ℕ, zero, suc, ℤ, pos, List, [], ◌∷◌, ◌++◌, map, option_map, length, slice_index, slice_index_or, arith, Option, None, Some, Ok, cond}
+use Rattle.std.proofs.Common.{◌≡◌, ◌∙◌, refl, sym, ap, ◌<◌, ℕ, zero, suc, ℤ, pos, List, [], ◌∷◌, ◌++◌, map, option_map, length, slice_index, slice_index_or, arith, Option, None, Some, Ok, cond}
 use Rattle.c_tree.specs.declared.lexer.tokens.Pos.{Pos}
 use Rattle.c_tree.specs.declared.declarations.AssignOp.{AssignOp}
 use Rattle.std.proofs.lemmas.List.{append_assoc, append-nil, map-append}

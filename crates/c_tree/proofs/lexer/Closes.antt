@@ -22,7 +22,7 @@ pub close_more : (bs : List ℕ) (i : ℕ) (all : Option ℕ) → i < length bs 
 close_more bs i all h t s =
     let left = drop-cons bs i 0 h in
     s ∙ ap (λ z. further i (close_len z)) left ∙ ap (further i) (close_open (get_or bs i 0) (drop (suc i) bs) (sym (ap closes left) ∙ t))
-        ∙ further_further i 1 (close_len (drop (suc i) bs)) ∙ rw add-one refl
+    ∙ further_further i 1 (close_len (drop (suc i) bs)) ∙ rw add-one refl
 
 -- `*/` at the front
 pub close_here : (bs : List ℕ) (i : ℕ) (all : Option ℕ) → i < length bs → closes (drop i bs) ≡ true → all ≡ further i (close_len (drop i bs)) → Some (i + 2) ≡ all

@@ -1,5 +1,5 @@
 -- The forms of tokens: what they begin with, and that a spelling is that of one kind.
-use Rattle.std.proofs.Common.{◌≡◌, ◌≢◌, ℕ, ◌≤◌, Bool, true, false, ◌&&◌, cond, List, [], ◌∷◌, ◌++◌, length, take, drop, Option, Some, None, find, refl, sym, ap, subst, ◌∙◌, arith, nat_eq, nat_le}
+use Rattle.std.proofs.Common.{◌≡◌, ◌≢◌, ℕ, ◌≤◌, Bool, true, false, ◌&&◌, cond, List, [], ◌∷◌, ◌++◌, length, take, Option, Some, None, find, refl, sym, ap, subst, ◌∙◌, arith, nat_eq, nat_le}
 use Rattle.std.specs.List.{list_all, starts_with}
 use Rattle.std.specs.Str.{bytes_eq}
 use Rattle.std.proofs.lemmas.Slice.Eq.{bytes_eq-Decides}
@@ -102,7 +102,7 @@ pub sign_found : (s : Sign) (rest : List ℕ) → (t : Sign)
     × (length (sign_spelling s) ≤ length (sign_spelling t))
 sign_found s rest =
     find_longest (λ z. starts_with nat_eq (sign_spelling s ++ rest) (sign_spelling z)) (λ z. length (sign_spelling z)) same_sign
-        (same_true the_sign.the_type tt) 3 SIGNS s signs_fall (sign_listed s) (sign_starts s rest)
+    (same_true the_sign.the_type tt) 3 SIGNS s signs_fall (sign_listed s) (sign_starts s rest)
 
 -- a reserved word is a name but for being reserved
 pub word_named : (w : Word) → IsName (word_spelling w)

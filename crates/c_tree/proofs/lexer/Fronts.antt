@@ -1,5 +1,5 @@
 -- What stands at the front, from what the code finds there.
-use Rattle.std.proofs.Common.{◌≡◌, ◌≢◌, ℕ, zero, suc, ◌+◌, ◌<◌, Bool, true, false, ◌&&◌, ◌||◌, List, [], ◌∷◌, ◌++◌, length, take, drop, get_or, slice_index, None, Result, Ok, Err, IfOk, refl, sym, ap, subst, ◌∙◌, arith, nat_eq, take-append-drop, append_assoc, inl, inr, codes, drop-cons}
+use Rattle.std.proofs.Common.{◌≡◌, ◌≢◌, ℕ, zero, suc, ◌+◌, ◌<◌, Bool, true, false, ◌&&◌, List, [], ◌∷◌, ◌++◌, length, take, drop, get_or, slice_index, None, Result, Ok, Err, IfOk, refl, sym, ap, subst, ◌∙◌, arith, nat_eq, take-append-drop, append_assoc, inl, inr, codes, drop-cons}
 use Rattle.std.specs.List.{list_all, prefix_len, starts_with}
 use Rattle.std.specs.declared.alloc.AllocError.{AllocError}
 use Rattle.c_tree.specs.declared.lexer.tokens.Kind.TheVariants as kind

@@ -51,17 +51,17 @@ tokens_of-push n p [] x =
     token_one n p x ∙ ap (λ z. token_of z p x) (let e : n ≡ n + length (all_bytes []) = omega arith in e)
 tokens_of-push n p (Passed s ∷ xs) x =
     tokens_of-push (n + length s) (advance p s) xs x ∙ ap
-        (λ z. tokens_of (n + length s) (advance p s) xs ++ token_of z (advance (advance p s) (all_bytes xs)) x)
-        (let e : n + length s + length (all_bytes xs) ≡ n + length (s ++ all_bytes xs) = omega (arith, length-append s (all_bytes xs)) in e)
-        ∙ ap (λ z. tokens_of (n + length s) (advance p s) xs ++ token_of (n + length (s ++ all_bytes xs)) z x)
-        (sym (advance-append p s (all_bytes xs)))
+    (λ z. tokens_of (n + length s) (advance p s) xs ++ token_of z (advance (advance p s) (all_bytes xs)) x)
+    (let e : n + length s + length (all_bytes xs) ≡ n + length (s ++ all_bytes xs) = omega (arith, length-append s (all_bytes xs)) in e)
+    ∙ ap (λ z. tokens_of (n + length s) (advance p s) xs ++ token_of (n + length (s ++ all_bytes xs)) z x)
+    (sym (advance-append p s (all_bytes xs)))
 tokens_of-push n p (Spelled k s ∷ xs) x =
     ap (λ z. record { kind = k; from = n; to = n + length s; at = p } ∷ z)
-        (tokens_of-push (n + length s) (advance p s) xs x ∙ ap
-        (λ z. tokens_of (n + length s) (advance p s) xs ++ token_of z (advance (advance p s) (all_bytes xs)) x)
-        (let e : n + length s + length (all_bytes xs) ≡ n + length (s ++ all_bytes xs) = omega (arith, length-append s (all_bytes xs)) in e)
-        ∙ ap (λ z. tokens_of (n + length s) (advance p s) xs ++ token_of (n + length (s ++ all_bytes xs)) z x)
-        (sym (advance-append p s (all_bytes xs))))
+    (tokens_of-push (n + length s) (advance p s) xs x ∙ ap
+    (λ z. tokens_of (n + length s) (advance p s) xs ++ token_of z (advance (advance p s) (all_bytes xs)) x)
+    (let e : n + length s + length (all_bytes xs) ≡ n + length (s ++ all_bytes xs) = omega (arith, length-append s (all_bytes xs)) in e)
+    ∙ ap (λ z. tokens_of (n + length s) (advance p s) xs ++ token_of (n + length (s ++ all_bytes xs)) z x)
+    (sym (advance-append p s (all_bytes xs))))
 
 drop_nil : (n : ℕ) → drop n (let e : List ℕ = [] in e) ≡ []
 drop_nil zero = refl
@@ -88,8 +88,15 @@ part_more bs fresh number n p ts l x w b a i s = record {
       ∙ ap (λ z. tokens_of 0 start s.parts ++ token_of (0 + length (all_bytes s.parts)) z x) s.place
       ∙ sym (tokens_of-push 0 start s.parts x);
   goes = λ stop more h. subst (AreParts stop true false bs) (sym (append_assoc s.parts (x ∷ []) more))
-      (s.goes stop (x ∷ more) (a, (drop l (drop n bs), sym (take-append-drop l (drop n bs)) ∙ ap (λ z. z ++ drop l (drop n bs)) (sym b), i,
-      subst (λ z. AreParts stop (is_fresh_behind fresh x) (is_number_part x) z more) (sym (drop_twice l n bs)) h)));
+      (s.goes stop (x ∷ more) (
+        a,
+        (
+          drop l (drop n bs),
+          sym (take-append-drop l (drop n bs)) ∙ ap (λ z. z ++ drop l (drop n bs)) (sym b),
+          i,
+          subst (λ z. AreParts stop (is_fresh_behind fresh x) (is_number_part x) z more) (sym (drop_twice l n bs)) h,
+        ),
+      ));
 }
 
 -- the outcome of stopping at a place
@@ -147,12 +154,12 @@ pub passed_more : (bs : List ℕ) (fresh number : Bool) (n : ℕ) (p : Pos) (ts 
     → State bs (fresh_after fresh (take l (drop n bs))) false (n + l) (advance p (take l (drop n bs))) ts
 passed_more bs fresh number n p ts l w a f s =
     subst (State bs (fresh_after fresh (take l (drop n bs))) false (n + l) (advance p (take l (drop n bs)))) (append-nil ts)
-        (part_more bs fresh number n p ts l (Passed (take l (drop n bs))) w refl a f s)
+    (part_more bs fresh number n p ts l (Passed (take l (drop n bs))) w refl a f s)
 
 pub token_more : (bs : List ℕ) (fresh number : Bool) (n : ℕ) (p : Pos) (ts : List Lexeme) (k : Kind) (l : ℕ) → l ≤ length (drop n bs)
     → (number ≡ true → IsApart (drop n bs)) → IsFront fresh (drop n bs) (front.Token k l) → State bs fresh number n p ts
     → State bs false (is_number k) (n + l) (advance p (take l (drop n bs))) (ts ++ record { kind = k; from = n; to = n + l; at = p } ∷ [])
 token_more bs fresh number n p ts k l w a f s =
     subst (λ z. State bs false (is_number k) (n + l) (advance p (take l (drop n bs)))
-        (ts ++ record { kind = k; from = n; to = n + z; at = p } ∷ [])) (taken l (drop n bs) w)
-        (part_more bs fresh number n p ts l (Spelled k (take l (drop n bs))) w refl a f s)
+    (ts ++ record { kind = k; from = n; to = n + z; at = p } ∷ [])) (taken l (drop n bs) w)
+    (part_more bs fresh number n p ts l (Spelled k (take l (drop n bs))) w refl a f s)

@@ -149,8 +149,8 @@ units_one (c ∷ t) (d ∷ u) r q a b n m h =
     let units = sym (unit_escaped c (all_escaped t ++ r) f.0) ∙ ap unit_of left ∙ unit_escaped d (all_escaped u ++ q) g.0 in
     let same = some_pair c (length (escaped c)) d (length (escaped d)) units in
     let more = units_one t u r q f.1 g.1 n m
-        (append_cancel_left (escaped d) (all_escaped t ++ r) (all_escaped u ++ q)
-        (subst (λ z. escaped z ++ (all_escaped t ++ r) ≡ escaped d ++ (all_escaped u ++ q)) same left)) in
+    (append_cancel_left (escaped d) (all_escaped t ++ r) (all_escaped u ++ q)
+    (subst (λ z. escaped z ++ (all_escaped t ++ r) ≡ escaped d ++ (all_escaped u ++ q)) same left)) in
     (ap (λ z. z ∷ t) same ∙ ap (λ z. d ∷ z) more.0, more.1)
 
 -- whether a text is closed shows behind its bytes

@@ -48,9 +48,9 @@ module _ (b : BoundValue) (ks : List RKernel) (o u : Owners) (programs_are_one :
   needs_before_same r (site ∷ sites) =
       let ih = needs_before_same r sites in
       fun_ext (λ d. fun_ext (λ y. ap₂
-          (λ (p : ℕ → ℕ → Bool) (f : ℕ → Bool). p d y || any_below (set_size b.mesh site.set)
-          (λ e. f e && list_any (reads_pair b d y e) site.args)) ih
-          (fun_ext (λ e. executes_for_same r (needs_before b o r sites) (needs_before c u r sites) ih site e))))
+      (λ (p : ℕ → ℕ → Bool) (f : ℕ → Bool). p d y || any_below (set_size b.mesh site.set)
+      (λ e. f e && list_any (reads_pair b d y e) site.args)) ih
+      (fun_ext (λ e. executes_for_same r (needs_before b o r sites) (needs_before c u r sites) ih site e))))
 
   free_sites_same : (xs : List ItemValue) → free_sites b xs ≡ free_sites c xs
   free_sites_same [] = refl

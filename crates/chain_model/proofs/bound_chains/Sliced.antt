@@ -64,7 +64,7 @@ module _ (b : BoundValue) (e : ℕ) (x : DatCell) where
       and_from (not (class.is_read a)) (pairs d e) (not_from_false (class.is_read a) (not_read a m)) (pair_of d e pairs (two_parts d e h) need)
   modified_pair pairs (Dat d (Some v) a) h m need =
       and_from (not (class.is_read a)) (pairs d (target b.mesh v.map e v.index)) (not_from_false (class.is_read a) (not_read a m))
-          (pair_of d (target b.mesh v.map e v.index) pairs (two_parts d (target b.mesh v.map e v.index) h) need)
+      (pair_of d (target b.mesh v.map e v.index) pairs (two_parts d (target b.mesh v.map e v.index) h) need)
   modified_pair pairs (Global v a) h m need = absurd (false≢true h)
 
   same_pair : (d y : ℕ) → (d ≡ x.dat) × (y ≡ x.element) → (nat_eq d x.dat && nat_eq y x.element) ≡ true
@@ -75,7 +75,7 @@ module _ (b : BoundValue) (e : ℕ) (x : DatCell) where
   read_pair (Dat d None a) h m = and_from (may_read a) (nat_eq d x.dat && nat_eq e x.element) (may_read_is a m) (same_pair d e (two_parts d e h))
   read_pair (Dat d (Some v) a) h m =
       and_from (may_read a) (nat_eq d x.dat && nat_eq (target b.mesh v.map e v.index) x.element) (may_read_is a m)
-          (same_pair d (target b.mesh v.map e v.index) (two_parts d (target b.mesh v.map e v.index) h))
+      (same_pair d (target b.mesh v.map e v.index) (two_parts d (target b.mesh v.map e v.index) h))
   read_pair (Global v a) h m = absurd (false≢true h)
 
 module _ (b : BoundValue) (o : Owners) (meshes : List RankMesh) (p : PlanValue) where

@@ -121,14 +121,14 @@ own_below b o own owners ranges pairs has d y r t = ⊎_elim
     (λ (l : d < dat_count b.mesh). ⊎_elim
     (λ (m : y < set_size b.mesh (Rattle.mesh_decl.specs.Mesh.dat_set b.mesh d)).
     let q : nat_eq r (owner_of o (Rattle.mesh_decl.specs.Mesh.dat_set b.mesh d) y) ≡ true =
-        Rattle.chain_needs.proofs.OwnPairs.owner_is b o d y r (owner_of o (Rattle.mesh_decl.specs.Mesh.dat_set b.mesh d) y) m refl
-        ∙ (sym (has d y r l m) ∙ t) in
+    Rattle.chain_needs.proofs.OwnPairs.owner_is b o d y r (owner_of o (Rattle.mesh_decl.specs.Mesh.dat_set b.mesh d) y) m refl
+    ∙ (sym (has d y r l m) ∙ t) in
     let e : r ≡ owner_of o (Rattle.mesh_decl.specs.Mesh.dat_set b.mesh d) y = eqb-true r (owner_of o (Rattle.mesh_decl.specs.Mesh.dat_set b.mesh d) y) q in
     subst (λ z. z < o.ranks) (sym e) (owners.below (Rattle.mesh_decl.specs.Mesh.dat_set b.mesh d) y (ranges.dats d l).set m))
     (λ (m : set_size b.mesh (Rattle.mesh_decl.specs.Mesh.dat_set b.mesh d) ≤ y).
     absurd (false≢true (sym (has_at_past (sets_in own d) y r
-        (let e : length (sets_in own d) ≡ set_size b.mesh (Rattle.mesh_decl.specs.Mesh.dat_set b.mesh d) = pairs.lengths d l in
-        omega arith)) ∙ t)))
+    (let e : length (sets_in own d) ≡ set_size b.mesh (Rattle.mesh_decl.specs.Mesh.dat_set b.mesh d) = pairs.lengths d l in
+    omega arith)) ∙ t)))
     (cases_lt y (set_size b.mesh (Rattle.mesh_decl.specs.Mesh.dat_set b.mesh d))))
     (λ (l : dat_count b.mesh ≤ d).
     absurd (false≢true (sym (ap (λ (z : List RankSet). has_at z y r) (sets_past own d (let e : length own ≡ dat_count b.mesh = pairs.count in omega arith)) ∙ has_at_past [] y r (omega arith)) ∙ t)))

@@ -3,8 +3,8 @@
 ghost use Rattle.std.specs.Prelude.{◌≡◌, ◌<◌, ℕ, IfOk, length};
 ghost use Rattle.local_mesh.specs.Sets.{sets_in};
 
-use op_num::OutOfMemory;
 use local_mesh::rank_sets::RankSet;
+use op_num::OutOfMemory;
 use std::alloc::Global;
 
 /// A copy of lists of sets.

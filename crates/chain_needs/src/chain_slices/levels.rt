@@ -13,9 +13,9 @@ ghost use Rattle.chain_needs.specs.Levels.{AreBelow, IsLevel, AreLevels, front_o
 use crate::chain_slices::copies::copy_sets;
 use crate::{executing_all, own_sets, read_dats};
 use bound_program::Bound;
+use local_mesh::rank_sets::{RankSet, places_by_rank};
 use mesh_decl::Owners;
 use op_num::OutOfMemory;
-use local_mesh::rank_sets::{RankSet, places_by_rank};
 use std::alloc::Global;
 
 /// A loop of a chain.

@@ -12,9 +12,9 @@ ghost use Rattle.chain_needs.specs.Levels.{AreBelow};
 
 use crate::ranks_at;
 use bound_program::Bound;
+use local_mesh::rank_sets::{RankSet, places_by_rank};
 use mesh_decl::Owners;
 use op_num::OutOfMemory;
-use local_mesh::rank_sets::{RankSet, places_by_rank};
 use std::alloc::Global;
 
 // The ranks of a set but one.

@@ -14,9 +14,9 @@ ghost use Rattle.chain_needs.specs.Shapes.{chain_messages};
 
 use crate::chain_slices::lists::others_of;
 use bound_program::Bound;
+use local_mesh::rank_sets::RankSet;
 use mesh_decl::Owners;
 use op_num::OutOfMemory;
-use local_mesh::rank_sets::RankSet;
 use std::alloc::Global;
 
 /// Whether a set has a rank.

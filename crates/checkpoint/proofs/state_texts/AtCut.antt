@@ -34,7 +34,7 @@ module _ (s : Store) where
       let one : length (map (f a) (numbers dim)) ≡ dim = length-map-range_with_len (f a) 0 dim in
       let more = rows_long f dim (a + 1) n in
       let both : length (map (f a) (numbers dim) ++ flat_map (λ x. map (f x) (numbers dim)) (range_with_len (a + 1) n)) ≡ length
-          (map (f a) (numbers dim)) + length (flat_map (λ x. map (f x) (numbers dim)) (range_with_len (a + 1) n)) =
+      (map (f a) (numbers dim)) + length (flat_map (λ x. map (f x) (numbers dim)) (range_with_len (a + 1) n)) =
       length-append (map (f a) (numbers dim)) (flat_map (λ x. map (f x) (numbers dim)) (range_with_len (a + 1) n)) in
       let all : suc n * dim ≡ n * dim + dim = suc-mul n dim in
       omega arith

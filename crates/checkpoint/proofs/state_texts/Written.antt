@@ -209,7 +209,7 @@ module _ (read : IntegersAreRead) (b : BoundValue) (k : ℕ) where
       let lengths : map length s.dats ≡ map (λ e. length (dat_values b.mesh e)) (range_with_len 0 (length s.dats)) =
       shape.dats ∙ (sym (lengths_by_number b.mesh) ∙ ap (λ n. map (λ e. length (dat_values b.mesh e)) (range_with_len 0 n)) (sym many)) in
       text_both (Item ∷ []) (awaited_vars 0 (starts b.vars) ++ (awaited_dats b.mesh ++ Done ∷ [])) (item_line k)
-          (vars_text 0 s.vars ++ (dats_text b.mesh 0 s.dats ++ codes "done\n")) [] (flat s.vars ++ (flat s.dats ++ []))
+      (vars_text 0 s.vars ++ (dats_text b.mesh 0 s.dats ++ codes "done\n")) [] (flat s.vars ++ (flat s.dats ++ []))
       (text_one Item (item_line k) [] (record { can_cut = can; is = refl }, refl))
       (text_both (awaited_vars 0 (starts b.vars)) (awaited_dats b.mesh ++ Done ∷ []) (vars_text 0 s.vars) (dats_text b.mesh 0 s.dats ++ codes "done\n") (flat s.vars) (flat s.dats ++ [])
       (vars_written 0 (starts b.vars) s.vars shape.vars v)

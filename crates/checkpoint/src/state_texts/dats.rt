@@ -11,9 +11,9 @@ ghost use Rattle.checkpoint.specs.Judged.{JudgesAmong, PushJudges};
 use crate::state_texts::lines::{take_exactly, take_values};
 use crate::state_texts::refusals::StateRefusal;
 use mesh_decl::{Mesh, Values};
+use op_num::texts::line_texts::Lines;
 use op_num::{OutOfMemory, put_u64};
 use std::alloc::Global;
-use op_num::texts::line_texts::Lines;
 
 // Writes the first line of a dat, without its LF.
 fn write_dat_line(text: &mut Vec<u8>, mesh: &Mesh, dat: u32) -> Result<(), OutOfMemory>

@@ -9,8 +9,8 @@ use crate::can_cut;
 use crate::state_texts::refusals::StateRefusal;
 use bound_program::Bound;
 use itoa::Buffer;
-use op_num::{OutOfMemory, read_i32, read_u64};
 use op_num::texts::line_texts::{Lines, Words};
+use op_num::{OutOfMemory, read_i32, read_u64};
 
 /// Takes the next line where it is this one, which is given without its LF.
 pub fn take_exactly(lines: &mut Lines, line: &[u8]) -> Result<(), StateRefusal>

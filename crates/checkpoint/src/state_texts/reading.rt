@@ -12,8 +12,8 @@ use crate::state_texts::refusals::StateRefusal;
 use crate::state_texts::vars::take_vars;
 use bound_program::Bound;
 use memchr::memmem;
-use std::alloc::Global;
 use op_num::texts::line_texts::Lines;
+use std::alloc::Global;
 
 // How a state begins, behind the line before it.
 const MARK: [u8; 12] = *b"\nop2state 1\n";

@@ -10,9 +10,9 @@ use crate::state_texts::lines::{take_exactly, take_values};
 use crate::state_texts::refusals::StateRefusal;
 use bound_program::Var;
 use mesh_decl::Values;
+use op_num::texts::line_texts::Lines;
 use op_num::{OutOfMemory, put_u64};
 use std::alloc::Global;
-use op_num::texts::line_texts::Lines;
 
 // Writes the line of a variable of this number with so many cells, without its LF.
 fn write_var_line(text: &mut Vec<u8>, number: u64, count: usize) -> Result<(), OutOfMemory>

@@ -76,8 +76,8 @@ module _ (b : BoundValue) where
     block_below owners ranges (Some r) h set e x fit le = (let l : r < o.ranks = h in omega arith)
     block_below owners ranges None h set e (Dat d v a) fit le =
         (let l : owner_of o (dat_set b.mesh d) (element_by b v e) < o.ranks =
-            owners.below (dat_set b.mesh d) (element_by b v e) ((ranges.dats d fit.0).set) (led ranges set d e v fit.0 fit.2 le) in
-            omega arith)
+        owners.below (dat_set b.mesh d) (element_by b v e) ((ranges.dats d fit.0).set) (led ranges set d e v fit.0 fit.2 le) in
+        omega arith)
     block_below owners ranges None h set e (Global v a) fit le = omega arith
 
     within_block : IsInRange b.mesh → (set e : ℕ) (x : Arg) → ArgFits b set x → e < set_size b.mesh set → place_of b (cell_in (reached b e x) 0) + width b (reached b e x) ≤ memory_length b

@@ -45,7 +45,7 @@ module _ (c : Slicing KernelFault) (k r : ℕ) where
   skipped m (suc d) st h =
       ap (λ n. rank_run c k r n st) (let q : m + suc d ≡ suc (m + d) = omega arith in q)
       ∙ ap (λ t. cond t (ran c k r (m + d) (c.program.run k (m + d) (view c k r (rank_run c k r (m + d) st))) (rank_run c k r (m + d) st))
-          (rank_run c k r (m + d) st)) (h (m + d) (omega arith) (omega arith))
+      (rank_run c k r (m + d) st)) (h (m + d) (omega arith) (omega arith))
       ∙ skipped m d st (λ e me ed. h e me (omega (arith, ed)))
 
   pub gap : (m n : ℕ) (st : ChainState KernelFault) → m ≤ n → count_below m (c.executes k r) ≡ count_below n (c.executes k r) → rank_run c k r n st ≡ rank_run c k r m st
@@ -109,8 +109,8 @@ module _ (c : Slicing KernelFault) (k r n : ℕ) (xs : List ℕ) (is : xs ≡ li
       let here : count_below e (c.executes k r) ≡ i = counted i (omega (arith, lt)) in
       let there : count_below (get_or xs (i + 1) n) (c.executes k r) ≡ i + 1 = counted (i + 1) (omega (arith, lt)) in
       let more : count_below (suc e) (c.executes k r) ≡ i + 1 =
-          (let q : count_below (suc e) (c.executes k r) ≡ count_below e (c.executes k r) + 1 =
-          ap (λ t. count_below e (c.executes k r) + cond t 1 0) runs in q ∙ ap (λ x. x + 1) here) in
+      (let q : count_below (suc e) (c.executes k r) ≡ count_below e (c.executes k r) + 1 =
+      ap (λ t. count_below e (c.executes k r) + cond t 1 0) runs in q ∙ ap (λ x. x + 1) here) in
       let later : suc e ≤ get_or xs (i + 1) n = ⊎_elim
       (λ (l : e < get_or xs (i + 1) n). let q : suc e ≤ get_or xs (i + 1) n = omega arith in q)
       (λ (l : get_or xs (i + 1) n ≤ e). absurd (omega (arith, here, there, count_le (get_or xs (i + 1) n) e (c.executes k r) l)))

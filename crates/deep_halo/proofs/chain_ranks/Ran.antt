@@ -134,7 +134,7 @@ module _ (b : BoundValue) (o : Owners) (fits : Fits b) (owners : AreOwners b.mes
     amount_is m v lm h some =
         amounts_are (nat_eq (owner_of o (site_at b s).set e) r) merge m v lm h some
         ∙ ap (λ (z : Bool). cond z (λ (x : VarCell). cond (nat_eq (owner_of o (site_at b s).set e) r)
-            (merge_at (reduces_at b s x) (st.partials r s x) (t (Variable x))) (st.partials r s x)) (st.partials m s) v)
+        (merge_at (reduces_at b s x) (st.partials r s x) (t (Variable x))) (st.partials r s x)) (st.partials m s) v)
         (sym (ap (λ z. nat_eq m r && z) (eq-eqb s s refl) ∙ and_yes (nat_eq m r)))
         ∙ ap (λ n. amount n m v) (sym at)
       where

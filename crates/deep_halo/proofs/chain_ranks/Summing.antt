@@ -90,6 +90,6 @@ summed b ranks r v how old new sums g p at from count lr lv holds parts same e w
     ∙ ap₂ (merged how)
     (ap (λ k. get_or old k (pos 0)) (ap (λ k. k + i) e ∙ sym (block_follow b ranks (Whole v) i)) ∙ holds.cells ranks (cell_in (Whole v) i) (omega arith) (has_of b (Whole v) i lv lt))
     (ap (λ k. get_or sums k (pos 0)) (ap (λ k. k + i) w ∙ sym (block_follow (of_vars b.vars) r (Whole v) i))
-        ∙ parts.cells r (cell_in (Whole v) i) (omega (arith, lr)) (has_of (of_vars b.vars) (Whole v) i lv lt)))
+    ∙ parts.cells r (cell_in (Whole v) i) (omega (arith, lr)) (has_of (of_vars b.vars) (Whole v) i lv lt)))
     (λ k l. others k (subst (λ j. (k < j) ⊎ (j + count ≤ k)) (sym e) (subst (λ j. (k < in_block b ranks (cell_in (Whole v) 0)) ⊎ (in_block b ranks (cell_in (Whole v) 0) + j ≤ k)) (sym wide) l)))
     holds

@@ -14,9 +14,9 @@ use crate::chain_memory::blocks::Blocks;
 use crate::chain_memory::loops::{Loop, MAX_ARGS};
 use crate::chain_memory::places::{owner_of, pair_at, variable_at, width_of};
 use bound_program::{Arg, Via};
-use kernel_runs::in_place::{KernelInPlace, run_here};
 use kernel_model::types::KernelFault;
 use kernel_model::types::views::Place;
+use kernel_runs::in_place::{KernelInPlace, run_here};
 
 // All arguments' cells are taken over from a run.
 const MARKS: [bool; MAX_ARGS] = [true; MAX_ARGS];

@@ -7,8 +7,8 @@ ghost use Rattle.run_model.specs.Memory.{first_memory, memory_length};
 ghost use Rattle.deep_halo.specs.Layouts.{AreDatStarts, IsLayout};
 
 use bound_program::Bound;
-use run_model::gather::host_acts::variable_starts;
 use op_num::OutOfMemory;
+use run_model::gather::host_acts::variable_starts;
 use std::alloc::Global;
 
 /// Where cells stand in a block: the dats in order, element by element, and then the variables.

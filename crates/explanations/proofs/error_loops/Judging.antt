@@ -10,13 +10,10 @@ use Rattle.kernel_model.specs.declared.types.kernels.RKernel.{RKernel}
 use Rattle.kernel_model.specs.Resolved.{IsResolved, AreResolved}
 use Rattle.kernel_model.specs.Obeys.{Mode, KernelObeys}
 use Rattle.kernel_model.specs.Refusals.{Rule, ObeysUnlessBroken, OneRefusal, number_of}
-use Rattle.access_check.specs.declared.modes.Mode as code
-use Rattle.access_check.specs.Modes.{model_of}
 use Rattle.explanations.specs.declared.error_loops.calls.LoopCall.{LoopCall}
 use Rattle.explanations.specs.declared.error_loops.judgements.Judgement.{Judgement}
 use Rattle.explanations.specs.Placed.{place_of}
-use Rattle.explanations.specs.Calls.{Call, call_of}
-use Rattle.explanations.specs.Modes.{mode_by}
+use Rattle.explanations.specs.Calls.{call_of}
 use Rattle.explanations.specs.First.{IsRefusedSo, SaysSo, Gives, IsGiving, StandsFirst}
 
 -- ---- one kernel

@@ -1,5 +1,5 @@
 -- Where the numbers below a key end.
-use Rattle.std.proofs.Common.{◌≡◌, ℕ, ◌<◌, ◌≤◌, ◌∙◌, arith, ⊎_elim, List, length, get_or, subst}
+use Rattle.std.proofs.Common.{◌≡◌, ℕ, ◌<◌, ◌≤◌, arith, ⊎_elim, List, length, get_or, subst}
 use Rattle.std.proofs.lemmas.Bool.{cases_lt}
 use Rattle.gmsh_mesh.specs.EqualKeys.{IsPoint, AreClasses}
 
@@ -18,11 +18,11 @@ point_less sorted c d r s k p q lt e less = ⊎_elim
 pub point_one : (sorted : List ℕ) (c r s : ℕ) → IsPoint sorted c r → IsPoint sorted c s → r ≡ s
 point_one sorted c r s p q = ⊎_elim
     (λ (a : r < s). absurd (let n : s ≤ length sorted = q.within in let x : get_or sorted r 0 < c = q.below r a in
-        let y : c ≤ get_or sorted r 0 = p.above r (omega arith) (omega arith) in omega arith))
+    let y : c ≤ get_or sorted r 0 = p.above r (omega arith) (omega arith) in omega arith))
     (λ (a : s ≤ r).
     ⊎_elim
     (λ (b : s < r). absurd (let n : r ≤ length sorted = p.within in let x : get_or sorted s 0 < c = p.below s b in
-        let y : c ≤ get_or sorted s 0 = q.above s (omega arith) (omega arith) in omega arith))
+    let y : c ≤ get_or sorted s 0 = q.above s (omega arith) (omega arith) in omega arith))
     (λ (b : r ≤ s). omega arith)
     (cases_lt s r))
     (cases_lt r s)

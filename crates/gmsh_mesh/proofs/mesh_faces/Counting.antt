@@ -132,8 +132,8 @@ module _ (mates : List ℕ) (n : ℕ) (m : AreMutual mates n) where
   by-first : (i : ℕ) → i < n → sum_below n (pair mates i) ≡ one_if (nat_lt i (get_or mates i 0))
   by-first i l =
       sum-one n (get_or mates i 0) (pair mates i) (m.below i l)
-          (λ j lj ne. let other : nat_eq j (get_or mates i 0) ≡ false = grind (arith, nat_tests, ne) in
-          ap (λ b. counted b (one_if (nat_lt i j))) other)
+      (λ j lj ne. let other : nat_eq j (get_or mates i 0) ≡ false = grind (arith, nat_tests, ne) in
+      ap (λ b. counted b (one_if (nat_lt i j))) other)
       ∙ (let yes : nat_eq (get_or mates i 0) (get_or mates i 0) ≡ true = grind (arith, nat_tests) in
       ap (λ b. counted b (one_if (nat_lt i (get_or mates i 0)))) yes)
 

@@ -1,5 +1,5 @@
 -- From new numbers and owners to the plan.
-use Rattle.std.proofs.Common.{◌≡◌, ℕ, inl, inr, List, ◌++◌, Option, Result, Ok, Err, refl, sym, subst}
+use Rattle.std.proofs.Common.{ℕ, inl, inr, List, ◌++◌, Option, Result, Ok, Err, refl, sym, subst}
 use Rattle.op_outside.specs.Outside.{Files}
 use Rattle.job_inputs.specs.Readings.{Readings, AreNext, HaveCome, Finds}
 use Rattle.job_inputs.proofs.kept_files.Finding.{finds_on, finds_weaker}

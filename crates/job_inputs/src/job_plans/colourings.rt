@@ -17,9 +17,9 @@ ghost use Rattle.job_inputs.specs.Plans.{SaysPlan, StandsFor};
 use bound_program::Bound;
 use command_words::Blocks;
 use command_words::answer_lines::{Failure, Halt, Limit, Refusal};
-use partition::distribute::Distribution;
 use loop_plan::plan_exists::some_plan;
 use loop_plan::{Plan, PlanRefusal, plan, plan_in_turn};
+use partition::distribute::Distribution;
 use plan_cert::{CertRefusal, certify, proper_plans_have_steps};
 use std::alloc::Global;
 

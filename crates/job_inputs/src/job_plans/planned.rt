@@ -25,10 +25,10 @@ use crate::{numbers_of, owners_of, partition_of, plan_text_of};
 use bound_program::Bound;
 use command_words::answer_lines::Halt;
 use command_words::{Blocks, Options};
-use partition::distribute::distribute;
 use loop_plan::planned_program::Planned;
 use mesh_decl::{Owners, Perms};
 use op_outside::Shelf;
+use partition::distribute::distribute;
 use std::alloc::Global;
 
 // The mesh by these owners and new numbers, and a plan there that runs what the one does that is asked for. Where a

@@ -120,7 +120,7 @@ module _ (counts : List ℕ) (ts : List Target) (consts : List ℤ) (counted : H
     ends (SetArg a form ix at op opat e) s ls =
         let x = effects_of counts (SetArg a form ix at op opat e) in
         let parts = λ (h : x.faults ≡ false). or_parts (may_be_out (count_at counts a) ix) (sign_may_fault op e || may_fault counts e)
-            (or_parts (may_be_out (count_at counts a) ix || (sign_may_fault op e || may_fault counts e)) false h).0 in
+        (or_parts (may_be_out (count_at counts a) ix || (sign_may_fault op e || may_fault counts e)) false h).0 in
         let sides = or_parts (sign_may_fault op e) (may_fault counts e) in
         ends_with x s ls (value_of ts consts ix s ls) _ (λ h. index_value ts consts s ls (count_at counts a) ix (parts h).0)
         (λ z d. ends_with x s ls (index_in (target_at ts a).count at z) _ (λ h. index_has ts consts s ls (count_at counts a) (target_at ts a).count ix at (counted a) (parts h).0 z d)

@@ -4,8 +4,8 @@ ghost use Rattle.std.specs.Prelude.{◌≡◌, ◌||◌};
 ghost use Rattle.kernel_model.specs.Effects.{may_be_out, may_be_zero, may_be_no_shift, operator_may_fault, sign_may_fault};
 ghost use Rattle.kernel_model.specs.Effects.{count_at, may_fault};
 
-use c_tree::{AssignOp, BinaryOp};
 use crate::types::RExpr;
+use c_tree::{AssignOp, BinaryOp};
 
 /// How many components an argument has; 0 for one that is not there.
 pub fn count_at(counts: &[u32], argument: u32) -> u32

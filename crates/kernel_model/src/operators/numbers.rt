@@ -6,8 +6,8 @@ ghost use Rattle.kernel_model.specs.Numbers.{negated, magnitude, truth, is_settl
 ghost use Rattle.kernel_model.specs.Meaning.{index_in, stored};
 ghost use Rattle.kernel_model.specs.Placed.{placed};
 
-use c_tree::{AssignOp, BinaryOp, MinMax, Pos, UnaryOp};
 use crate::types::{Fault, KernelFault};
+use c_tree::{AssignOp, BinaryOp, MinMax, Pos, UnaryOp};
 use op_num::reductions::{Greatest, Least, Merge};
 use op_num::{abs, div, rem, shl, shr, wrap_add, wrap_mul, wrap_neg, wrap_sub};
 

@@ -54,7 +54,7 @@ apart y cells modes stand places n h i l k i_lt l_lt differ changed read =
     one_column c c_lt by meet =
         let direct = h.stored c c_lt (inr by) in
         let same = same_number (column_at y c).cell (column_at y c).cell (column_at y c).dim (column_at y c).dim
-            (local_in (way_of y c) (slice_index places i)) (local_in (way_of y c) (slice_index places l)) refl refl (h.dims c c_lt) meet in
+        (local_in (way_of y c) (slice_index places i)) (local_in (way_of y c) (slice_index places l)) refl refl (h.dims c c_lt) meet in
         differ direct.1 (sym (ap (λ w. local_in w (slice_index places i)) direct.0) ∙ same ∙ ap (λ w. local_in w (slice_index places l)) direct.0)
 
     columns : (c d : ℕ) → c < length y.columns.now → d < length y.columns.now → column_access y c ≢ OpRead → (column_access y d ≡ OpRead)

@@ -66,7 +66,7 @@ module _ (y : RowLoop) (m : List ℤ) (modes : List Mode) (stand : ℕ → List 
       (λ (never : NeverMeet y (length m) modes stand batch h.rows c d). never l l l_lt l_lt same)
       (λ (r : ReduceApart y c d). tested c d l c_lt d_lt l_lt r
       (same_number (column_at y c).cell (column_at y d).cell (column_at y c).dim (column_at y d).dim (local_in (way_of y c) (place l))
-          (local_in (way_of y d) (place l)) r.cell r.dim (h.runs.dims c c_lt) same))
+      (local_in (way_of y d) (place l)) r.cell r.dim (h.runs.dims c c_lt) same))
       (h.runs.apart c d c_lt d_lt ne changes)
 
   -- a column that is stored to has different cells in two rows
@@ -75,6 +75,6 @@ module _ (y : RowLoop) (m : List ℤ) (modes : List Mode) (stand : ℕ → List 
   in_rows c i l c_lt how i_lt l_lt ne same =
       let direct = h.runs.stored c c_lt how in
       let numbers_same = same_number (column_at y c).cell (column_at y c).cell (column_at y c).dim (column_at y c).dim
-          (local_in (way_of y c) (place i)) (local_in (way_of y c) (place l)) refl refl (h.runs.dims c c_lt) same in
+      (local_in (way_of y c) (place i)) (local_in (way_of y c) (place l)) refl refl (h.runs.dims c c_lt) same in
       h.differ direct.1 i l i_lt l_lt ne
       (sym (ap (λ w. local_in w (place i)) direct.0) ∙ numbers_same ∙ ap (λ w. local_in w (place l)) direct.0)

@@ -156,7 +156,7 @@ module _ (laws : (r : Reduction) → IsCommuting (unit_of r) (merged r)) where
   by_columns n (x ∷ xs) [] p alike inside = sym (no_columns x xs n p)
   by_columns n (x ∷ xs) (c ∷ cs) p alike inside =
       by_columns n xs cs (total_in n x c p) (λ i j i_lt j_lt. alike (suc i) (suc j) (omega arith) (omega arith))
-          (all_in_as_many (length p) (length (total_in n x c p)) xs (sym (long_total n x c p)) inside.1)
+      (all_in_as_many (length p) (length (total_in n x c p)) xs (sym (long_total n x c p)) inside.1)
       ∙ column_first x xs c cs p (λ j lt. alike 0 (suc j) (omega arith) (omega arith)) inside.0 n
 
   pub totals_by_rows : (n : ℕ) (xs : List Scalar) (cs : List (List ℤ)) (p : List ℤ)

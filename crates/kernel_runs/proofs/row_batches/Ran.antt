@@ -97,7 +97,7 @@ module _ (y : RowLoop) (m : List ℤ) (modes : List Mode) (stand : ℕ → List 
     abbrev Row : ℕ → List ℤ → List ℤ → Type 0
     Row l between new =
         RunsRow y.code.now.kernel.now modes y.constants.now (ft y m modes stand batch numbers frame h)
-            (behind y m modes stand batch numbers frame h) (mt y m modes stand batch numbers frame h l) (row l after) between new
+        (behind y m modes stand batch numbers frame h) (mt y m modes stand batch numbers frame h l) (row l after) between new
 
     one_amount : (l : ℕ) (between new : List ℤ) → l < h.rows → length between ≡ length m → (one : Row l between new) → (j : ℕ)
         → j < length y.scalars.now → (AllowsScalar (scalar_at y j) OpRead → ⊥)
@@ -127,14 +127,14 @@ module _ (y : RowLoop) (m : List ℤ) (modes : List Mode) (stand : ℕ → List 
             ∙ sym (in_the_memory y m modes stand batch numbers frame h one.after l a i)
             ∙ one.put.amounts r.0 a i i_lt r.1
             ∙ ap (λ k. merged r.0 k (read_arg (ft y m modes stand batch numbers frame h) (row l after ∷ []) a i))
-                (in_the_memory y m modes stand batch numbers frame h (between ++ behind y m modes stand batch numbers frame h) l a i
-                ∙ ap (λ k. get_or (between ++ behind y m modes stand batch numbers frame h) k (pos 0)) place ∙ old)
+            (in_the_memory y m modes stand batch numbers frame h (between ++ behind y m modes stand batch numbers frame h) l a i
+            ∙ ap (λ k. get_or (between ++ behind y m modes stand batch numbers frame h) k (pos 0)) place ∙ old)
             ∙ ap (merged r.0 (unit_of r.0)) value)
 
     abbrev Rows : ℕ → List ℤ → Type 0
     Rows n new =
         OneByOne y.code.now.kernel.now modes y.constants.now (ft y m modes stand batch numbers frame h)
-            (behind y m modes stand batch numbers frame h) (mt y m modes stand batch numbers frame h) (λ l. row l after) n m new
+        (behind y m modes stand batch numbers frame h) (mt y m modes stand batch numbers frame h) (λ l. row l after) n m new
 
     same_amounts : (l : ℕ) (between new p : List ℤ) → l < h.rows → length between ≡ length m → (one : Row l between new)
         → amounts y.scalars.now (row l columns_behind) p ≡ amounts y.scalars.now (drop (length between) one.after) p
@@ -142,9 +142,9 @@ module _ (y : RowLoop) (m : List ℤ) (modes : List Mode) (stand : ℕ → List 
         let count : length (row l columns_behind) ≡ length after - length y.columns.now = length-map columns_behind (at_row l) ∙ length-drop (length y.columns.now) after in
         let left : length (drop (length between) one.after) ≡ length one.after - length between = length-drop (length between) one.after in
         let whole : length (between ++ behind y m modes stand batch numbers frame h) ≡ length between + length
-            (behind y m modes stand batch numbers frame h) = length-append between (behind y m modes stand batch numbers frame h) in
+        (behind y m modes stand batch numbers frame h) = length-append between (behind y m modes stand batch numbers frame h) in
         let all : length (m ++ behind y m modes stand batch numbers frame h) ≡ length m + length
-            (behind y m modes stand batch numbers frame h) = length-append m (behind y m modes stand batch numbers frame h) in
+        (behind y m modes stand batch numbers frame h) = length-append m (behind y m modes stand batch numbers frame h) in
         amounts_agree y.scalars.now (row l columns_behind) (drop (length between) one.after) p
         (omega (arith, count, long))
         (omega (arith, left, one.put.count, whole, all, all_long y m modes stand batch numbers frame h))
@@ -161,7 +161,7 @@ module _ (y : RowLoop) (m : List ℤ) (modes : List Mode) (stand : ℕ → List 
         let one = rows.2 in
         let before = with_partials p n between (omega arith) rows.1 in
         let whole : length (between ++ behind y m modes stand batch numbers frame h) ≡ length between + length
-            (behind y m modes stand batch numbers frame h) = length-append between (behind y m modes stand batch numbers frame h) in
+        (behind y m modes stand batch numbers frame h) = length-append between (behind y m modes stand batch numbers frame h) in
         let size : length (take (length between) one.after) ≡ length between = length-take-le (length between) one.after (omega (arith, one.put.count, whole)) in (
           (
             between,
@@ -189,17 +189,17 @@ module _ (y : RowLoop) (m : List ℤ) (modes : List Mode) (stand : ℕ → List 
       rows_ran : (n : ℕ) → n ≡ h.rows → Rows n (put_as n)
       rows_ran n e =
           batches y.code.now.kernel.now modes y.constants.now (ft y m modes stand batch numbers frame h)
-              (behind y m modes stand batch numbers frame h) (mt y m modes stand batch numbers frame h) (λ l. row l frame)
-              (λ l. row l after) n m moves (inner y m modes stand batch numbers frame h after)
-              (most y m modes stand batch numbers frame h after) resolved h.runs.obeys consts_fit
-              (in_range y m modes stand batch numbers frame h)
+          (behind y m modes stand batch numbers frame h) (mt y m modes stand batch numbers frame h) (λ l. row l frame)
+          (λ l. row l after) n m moves (inner y m modes stand batch numbers frame h after)
+          (most y m modes stand batch numbers frame h after) resolved h.runs.obeys consts_fit
+          (in_range y m modes stand batch numbers frame h)
           (subst (λ k. RowsApart modes (mt y m modes stand batch numbers frame h) k (length m)) (sym e) (rows_apart y m modes stand batch numbers frame h))
           (λ l lt. stands_for y m modes stand batch numbers frame h l (omega (arith, lt, e)))
           (λ l lt. ran l (omega (arith, lt, e)))
           (λ l lt. are_moves y m modes stand batch numbers frame h after l (omega (arith, lt, e)))
           (subst (λ k. AreColumns moves (inner y m modes stand batch numbers frame h after)
-              (most y m modes stand batch numbers frame h after) k (length m)) (sym e)
-              (are_columns y m modes stand batch numbers frame h after))
+          (most y m modes stand batch numbers frame h after) k (length m)) (sym e)
+          (are_columns y m modes stand batch numbers frame h after))
 
       abbrev Ran : ℕ → (new p q : List ℤ) → Type 0
       Ran n new p q =

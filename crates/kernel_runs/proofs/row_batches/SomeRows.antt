@@ -51,8 +51,8 @@ part_in_rows y cells modes stand places batch n d m within same h =
       counts = λ l a lt. subst (λ x. (target_at (map target_of (stand x)) a).count ≡ dim modes a) (sym (same l lt)) (h.counts (d + l) a (wide l lt));
       stands = λ l a i lt below.
           subst (λ x. OnDat y x (access modes a) (in_frame y cells modes stand batch a i) (in_memory y cells modes stand batch x a i)
-              ⊎ OnVariable y cells (access modes a) (in_frame y cells modes stand batch a i) (in_memory y cells modes stand batch x a i))
-              (sym (same l lt))
+          ⊎ OnVariable y cells (access modes a) (in_frame y cells modes stand batch a i) (in_memory y cells modes stand batch x a i))
+          (sym (same l lt))
           (h.stands (d + l) a i (wide l lt) below);
       columns = h.columns;
       amounts = h.amounts;

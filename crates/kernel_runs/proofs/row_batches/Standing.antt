@@ -104,7 +104,7 @@ module _ (y : RowLoop) (m : List ℤ) (modes : List Mode) (stand : ℕ → List 
   first_fits : (j : ℕ) → FitsSigned w32 (get_or behind j (pos 0))
   first_fits j = ⊎_elim
       (λ (lt : j < length y.scalars.now). subst (FitsSigned w32) (sym (first_at y.variables.now y.scalars.now j lt))
-          (subst (FitsSigned w32) (h.firsts j 0 lt h.some) (h.fits (length y.columns.now + j) 0)))
+      (subst (FitsSigned w32) (h.firsts j 0 lt h.some) (h.fits (length y.columns.now + j) 0)))
       (λ (le : length y.scalars.now ≤ j). past behind j (omega (arith, le, firsts_length y.variables.now y.scalars.now)))
       (cases_lt j (length y.scalars.now))
     where
@@ -138,8 +138,8 @@ module _ (y : RowLoop) (m : List ℤ) (modes : List Mode) (stand : ℕ → List 
   other_stand l a i b j l_lt changes (inl d) (inl e) same = ⊎_elim
       (λ (q : fcol a i ≡ fcol b j). q)
       (λ (ne : fcol a i ≡ fcol b j → ⊥). absurd
-          (in_row y m modes stand batch numbers frame h (fcol a i) (fcol b j) l d.few e.few ne
-          (changing (column_access y (fcol a i)) (access modes a) d.allows changes) l_lt (sym d.cell ∙ same ∙ e.cell)))
+      (in_row y m modes stand batch numbers frame h (fcol a i) (fcol b j) l d.few e.few ne
+      (changing (column_access y (fcol a i)) (access modes a) d.allows changes) l_lt (sym d.cell ∙ same ∙ e.cell)))
       (cases_eq (fcol a i) (fcol b j))
   other_stand l a i b j l_lt changes (inl d) (inr v) same = absurd (omega (arith, inside l (fcol a i) l_lt d.few, d.cell, v.cell, same))
   other_stand l a i b j l_lt changes (inr v) (inl d) same = absurd (omega (arith, inside l (fcol b j) l_lt d.few, d.cell, v.cell, same))
@@ -180,7 +180,7 @@ module _ (y : RowLoop) (m : List ℤ) (modes : List Mode) (stand : ℕ → List 
   unit : (r : Reduction) (l a i : ℕ) → l < h.rows → access modes a ≡ OpReduce r → Stands l a i → at_row l (get_or frame (fcol a i) []) ≡ unit_of r
   unit r l a i l_lt by (inl d) =
       subst (λ acc. FilledFor numbers h.rows acc m (column_at y (fcol a i)) (get_or frame (fcol a i) []))
-          (reducing (column_access y (fcol a i)) (access modes a) r d.allows by) (h.filled (fcol a i) d.few) l l_lt
+      (reducing (column_access y (fcol a i)) (access modes a) r d.allows by) (h.filled (fcol a i) d.few) l l_lt
   unit r l a i l_lt by (inr v) =
       ap (λ c. at_row l (get_or frame c [])) v.column
       ∙ h.firsts v.number l v.few l_lt

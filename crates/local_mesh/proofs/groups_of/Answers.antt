@@ -20,8 +20,8 @@ groups_by_rank-requires-clause-exec c =
     let s = c.args.set in
     let halo = c.requires.halo in
     λ r k lr. listed_within (set_size g s) (length c.of_set-by.result.now) (λ x. imports_execute g o s x r) (row c.deref-2.result.now r)
-        (ap (λ (z : List (Vec ℕ Global)). row z r) c.deref-2.ensures.value ∙ halo.exec r lr)
-        (sym (ap (length {A = ℕ}) c.of_set-by.ensures ∙ c.requires.owners.lengths s c.requires.set)) k
+    (ap (λ (z : List (Vec ℕ Global)). row z r) c.deref-2.ensures.value ∙ halo.exec r lr)
+    (sym (ap (length {A = ℕ}) c.of_set-by.ensures ∙ c.requires.owners.lengths s c.requires.set)) k
 
 pub groups_by_rank-requires-clause-nonexec : goal.groups_by_rank-requires-clause-nonexec
 groups_by_rank-requires-clause-nonexec c =
@@ -30,8 +30,8 @@ groups_by_rank-requires-clause-nonexec c =
     let s = c.args.set in
     let halo = c.requires.halo in
     λ r k lr. listed_within (set_size g s) (length c.of_set-by.result.now) (λ x. imports_nonexecute g o s x r) (row c.deref-3.result.now r)
-        (ap (λ (z : List (Vec ℕ Global)). row z r) c.deref-3.ensures.value ∙ halo.nonexec r lr)
-        (sym (ap (length {A = ℕ}) c.of_set-by.ensures ∙ c.requires.owners.lengths s c.requires.set)) k
+    (ap (λ (z : List (Vec ℕ Global)). row z r) c.deref-3.ensures.value ∙ halo.nonexec r lr)
+    (sym (ap (length {A = ℕ}) c.of_set-by.ensures ∙ c.requires.owners.lengths s c.requires.set)) k
 
 pub returns-then-is_kept : goal.returns-then-is_kept
 returns-then-is_kept c =

@@ -68,9 +68,9 @@ core_targets g o s x m i t lm f li =
     let b : ℕ = owner_of o s x in
     eqb-true a b (true_from_ne_false (nat_eq a b) (λ e.
     let w : foreign m ≡ true = and_from (nat_eq (map_from g m) s)
-        (any_below (map_dim g m) (λ i. not (nat_eq (owner_of o (map_to g m) (target g m x i)) (owner_of o s x))))
-        (eq-eqb (map_from g m) s f) (any_from (map_dim g m) (λ i. not (nat_eq (owner_of o (map_to g m) (target g m x i)) (owner_of o s x)))
-        i li (not_from_false (nat_eq a b) e)) in
+    (any_below (map_dim g m) (λ i. not (nat_eq (owner_of o (map_to g m) (target g m x i)) (owner_of o s x))))
+    (eq-eqb (map_from g m) s f) (any_from (map_dim g m) (λ i. not (nat_eq (owner_of o (map_to g m) (target g m x i)) (owner_of o s x)))
+    i li (not_from_false (nat_eq a b) e)) in
     let z : false ≡ true = sym (not-true (any_below (map_count g) foreign) t) ∙ any_from (map_count g) foreign m lm w in
     cc))
 

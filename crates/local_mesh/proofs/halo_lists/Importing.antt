@@ -72,9 +72,9 @@ unfolding named_from
 named_agree g o ranks s y r ok h = any_agree (map_count g) (λ m. nat_eq (map_to g m) s && named_by g (has_in ranks (map_from g m)) m y r)
     (λ m. nat_eq (map_to g m) s && named_by g (executes g o (map_from g m)) m y r)
     (λ m l. ap (λ z. nat_eq (map_to g m) s && z)
-        (any_agree (set_size g (map_from g m))
-        (λ x. has_in ranks (map_from g m) x r && any_below (map_dim g m) (λ i. nat_eq (target g m x i) y))
-        (λ x. executes g o (map_from g m) x r && any_below (map_dim g m) (λ i. nat_eq (target g m x i) y))
+    (any_agree (set_size g (map_from g m))
+    (λ x. has_in ranks (map_from g m) x r && any_below (map_dim g m) (λ i. nat_eq (target g m x i) y))
+    (λ x. executes g o (map_from g m) x r && any_below (map_dim g m) (λ i. nat_eq (target g m x i) y))
     (λ x lx. ap (λ z. z && any_below (map_dim g m) (λ i. nat_eq (target g m x i) y)) (h.has (map_from g m) x r (ok.maps m l).from lx))))
 
 -- an owner is a rank
@@ -139,7 +139,7 @@ core_iff g o s x ok own ls lx b iff =
     let lx' : x < set_size g (map_from g m.0) = subst (λ z. x < set_size g z) f lx in
     let lr : r < 64 = omega (arith, own.few_ranks, own.below (map_to g m.0) (target g m.0 x i.0) (ok.maps m.0 m.1).to ((ok.maps m.0 m.1).within x i.0 lx' i.1)) in
     let no : not (nat_eq (owner_of o s x) r) ≡ true = not_from_false (nat_eq (owner_of o s x) r)
-        (ne_eqb (owner_of o s x) r (λ q. not-none (nat_eq r (owner_of o s x)) i.2 (eq-eqb r (owner_of o s x) (sym q)))) in
+    (ne_eqb (owner_of o s x) r (λ q. not-none (nat_eq r (owner_of o s x)) i.2 (eq-eqb r (owner_of o s x) (sym q)))) in
     let by : reaches_by g o m.0 x r ≡ true = any_from (map_dim g m.0) (λ j. nat_eq (owner_of o (map_to g m.0) (target g m.0 x j)) r) i.0 i.1 (eq-eqb r r refl) in
     let re : reaches g o s x r ≡ true = any_from (map_count g) (λ k. nat_eq (map_from g k) s && reaches_by g o k x r) m.0 m.1 (and_from (nat_eq (map_from g m.0) s) (reaches_by g o m.0 x r) c.0 by) in
     let yes = and_from (not (nat_eq (owner_of o s x) r)) (reaches g o s x r) no re in
@@ -151,14 +151,14 @@ core_iff g o s x ok own ls lx b iff =
     let i = any_witness (map_dim g m.0) (λ j. nat_eq (owner_of o (map_to g m.0) (target g m.0 x j)) r) c.1 in
     let q : owner_of o (map_to g m.0) (target g m.0 x i.0) ≡ r = eqb-true (owner_of o (map_to g m.0) (target g m.0 x i.0)) r i.2 in
     let n : not (nat_eq (owner_of o (map_to g m.0) (target g m.0 x i.0)) (owner_of o s x)) ≡ true =
-        not_from_false (nat_eq (owner_of o (map_to g m.0) (target g m.0 x i.0)) (owner_of o s x))
-        (ne_eqb (owner_of o (map_to g m.0) (target g m.0 x i.0)) (owner_of o s x)
-        (λ e. not-none (nat_eq (owner_of o s x) r) p.0 (eq-eqb (owner_of o s x) r (sym e ∙ q)))) in
+    not_from_false (nat_eq (owner_of o (map_to g m.0) (target g m.0 x i.0)) (owner_of o s x))
+    (ne_eqb (owner_of o (map_to g m.0) (target g m.0 x i.0)) (owner_of o s x)
+    (λ e. not-none (nat_eq (owner_of o s x) r) p.0 (eq-eqb (owner_of o s x) r (sym e ∙ q)))) in
     let w = any_from (map_dim g m.0) (λ j. not (nat_eq (owner_of o (map_to g m.0) (target g m.0 x j)) (owner_of o s x))) i.0 i.1 n in
     not-none (any_below (map_count g) foreign) t
-        (any_from (map_count g) foreign m.0 m.1
-        (and_from (nat_eq (map_from g m.0) s)
-        (any_below (map_dim g m.0) (λ j. not (nat_eq (owner_of o (map_to g m.0) (target g m.0 x j)) (owner_of o s x)))) c.0 w)))))
+    (any_from (map_count g) foreign m.0 m.1
+    (and_from (nat_eq (map_from g m.0) s)
+    (any_below (map_dim g m.0) (λ j. not (nat_eq (owner_of o (map_to g m.0) (target g m.0 x j)) (owner_of o s x)))) c.0 w)))))
 
 -- one set's part of the ranks that execute
 pub here_is : (g : MeshValue) (o : Owners) (ranks : List (Vec RankSet Global)) (s : ℕ) (v : Vec RankSet Global) (now : List RankSet)

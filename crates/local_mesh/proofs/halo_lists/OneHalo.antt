@@ -46,7 +46,7 @@ module _ (g : MeshValue) (o : Owners) where
   one_set_halo s a b h k =
       let exec : lists_of a.exec.items ≡ lists_of b.exec.items = same_lists a.exec.items b.exec.items o.ranks h.exec_count k.exec_count (λ r l. h.exec r l ∙ sym (k.exec r l)) in
       let nonexec : lists_of a.nonexec.items ≡ lists_of b.nonexec.items =
-          same_lists a.nonexec.items b.nonexec.items o.ranks h.nonexec_count k.nonexec_count (λ r l. h.nonexec r l ∙ sym (k.nonexec r l)) in
+      same_lists a.nonexec.items b.nonexec.items o.ranks h.nonexec_count k.nonexec_count (λ r l. h.nonexec r l ∙ sym (k.nonexec r l)) in
       let exports : deep a.exports.items ≡ deep b.exports.items = same_deep a.exports.items b.exports.items o.ranks h.export_count k.export_count
       (λ q l. same_lists (rows a.exports.items q) (rows b.exports.items q) o.ranks (h.export_counts q l) (k.export_counts q l) (λ r lr. h.exports q r l lr ∙ sym (k.exports q r l lr))) in
       let core : a.core.items ≡ b.core.items = ext_get_or false a.core.items b.core.items (h.core_count ∙ sym k.core_count)

@@ -41,8 +41,8 @@ local_sets-requires-clause-ready c =
     let ls : s < set_count g = rw (← e.count) l in
     let room : set_size g s ≤ length c.loop-rank.scratch = (let q = c.requires.scratch s ls in omega (arith, c.loop-rank.auto.scratch)) in
     ready g c.args.owners.now c.args.perms.now s c.loop-rank.rank (get_or c.in_ok-groups.groups.items s t) (e.groups s t ls)
-        c.loop-rank-test.true (c.requires.perms.numbers s ls) (c.is_in_range.ensures.sizes s) (get_or c.args.halos.now.sets.items s h)
-        (length c.loop-rank.scratch) (c.requires.halos.sets s h ls) room))
+    c.loop-rank-test.true (c.requires.perms.numbers s ls) (c.is_in_range.ensures.sizes s) (get_or c.args.halos.now.sets.items s h)
+    (length c.loop-rank.scratch) (c.requires.halos.sets s h ls) room))
 
 pub rank_mesh-requires-clause-closed : goal.rank_mesh-requires-clause-closed
 rank_mesh-requires-clause-closed c =
@@ -54,8 +54,8 @@ rank_mesh-requires-clause-closed c =
     let f = c.in_ok-sets.ensures in
     let n : length c.in_ok-sets.sets.items ≡ set_count g = f.count ∙ (ap (length {A = Groups}) c.deref.ensures.value ∙ e.count) in
     let is = sets_are g o p r c.in_ok-groups.groups.items c.deref.result.now c.args.halos.now.sets.items c.in_ok-sets.sets.items
-        c.loop-rank-test.true c.deref.ensures.value e.count c.requires.halos.count e.groups c.requires.halos.sets c.requires.perms f.joined
-        in
+    c.loop-rank-test.true c.deref.ensures.value e.count c.requires.halos.count e.groups c.requires.halos.sets c.requires.perms f.joined
+    in
     sets_closed g o p r c.in_ok-sets.sets.items n c.requires.perms is c.is_in_range.ensures.sizes c.is_in_range.ensures.maps (λ m x i. c.executed_targets_are_copies.ensures g o m x i r)
 
 pub loop-rank-preserved : goal.loop-rank-preserved
@@ -71,7 +71,7 @@ loop-rank-preserved c =
     let sets = c.in_ok-sets.sets.items in
     let n : length sets ≡ set_count g = f.count ∙ (ap (length {A = Groups}) c.deref.ensures.value ∙ e.count) in
     let is = sets_are g o p r c.in_ok-groups.groups.items c.deref.result.now c.args.halos.now.sets.items sets c.loop-rank-test.true
-        c.deref.ensures.value e.count c.requires.halos.count e.groups c.requires.halos.sets c.requires.perms f.joined in
+    c.deref.ensures.value e.count c.requires.halos.count e.groups c.requires.halos.sets c.requires.perms f.joined in
     let xs = c.loop-rank.ranks.items in
     rw c.in_ok-push.ensures.items (
       omega (arith, length_push xs v, c.loop-rank.invariant.0),

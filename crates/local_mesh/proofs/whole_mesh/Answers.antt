@@ -9,8 +9,8 @@ pub rank_mesh-requires-clause-closed : goal.rank_mesh-requires-clause-closed
 rank_mesh-requires-clause-closed c =
     let f = c.in_ok-sets.ensures in
     sets_closed c.args.mesh.now c.args.owners.now c.args.perms.now 0 c.in_ok-sets.sets.items f.count c.requires.perms f.sets
-        c.is_in_range.ensures.sizes c.is_in_range.ensures.maps
-        (λ m x i. c.executed_targets_are_copies.ensures c.args.mesh.now c.args.owners.now m x i 0)
+    c.is_in_range.ensures.sizes c.is_in_range.ensures.maps
+    (λ m x i. c.executed_targets_are_copies.ensures c.args.mesh.now c.args.owners.now m x i 0)
 
 pub returns : goal.returns
 returns c =

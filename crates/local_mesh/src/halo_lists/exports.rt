@@ -3,8 +3,8 @@ ghost use Rattle.std.specs.Prelude.{◌≡◌, ℕ, Bool, true, ◌<◌, ◌≤�
 ghost use Rattle.lemmas.specs.Below.{row, rows};
 ghost use Rattle.local_mesh.specs.RankSet.{has};
 
-use op_num::OutOfMemory;
 use crate::rank_sets::{RankSet, empty_lists, push_each};
+use op_num::OutOfMemory;
 use std::alloc::Global;
 
 /// Appends an element to its owner's list for each rank of a set.

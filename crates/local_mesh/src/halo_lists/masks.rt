@@ -7,9 +7,9 @@ ghost use Rattle.mesh_decl.specs.Owners.{AreOwners};
 ghost use Rattle.local_mesh.specs.RankSet.{has, has_at};
 ghost use Rattle.local_mesh.specs.Halo.{reaches_by, executes};
 
+use crate::rank_sets::RankSet;
 use mesh_decl::{Mesh, Owners};
 use op_num::OutOfMemory;
-use crate::rank_sets::RankSet;
 use std::alloc::Global;
 
 /// The owners of an element's targets by one map.

@@ -7,9 +7,9 @@ ghost use Rattle.local_mesh.specs.RankSet.{has, has_at};
 ghost use Rattle.local_mesh.specs.Halo.{named_by, named_from};
 ghost use Rattle.local_mesh.specs.Sets.{AreSets, has_in};
 
+use crate::rank_sets::RankSet;
 use mesh_decl::Mesh;
 use op_num::OutOfMemory;
-use crate::rank_sets::RankSet;
 use std::alloc::Global;
 
 /// Adds ranks to each target of an element by one map.

@@ -9,9 +9,9 @@ ghost use Rattle.local_mesh.specs.Halos.{IsSetHalo, IsHaloBelow};
 
 use crate::halo_lists::exports::{empty_exports, push_export};
 use crate::halo_lists::types::SetHalo;
+use crate::rank_sets::{RankSet, empty_lists, push_each};
 use mesh_decl::{Mesh, Owners};
 use op_num::OutOfMemory;
-use crate::rank_sets::{RankSet, empty_lists, push_each};
 use std::alloc::Global;
 
 // Adds an element to the halos of the elements before it: it is imported to execute by those that execute it but its

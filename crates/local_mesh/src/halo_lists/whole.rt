@@ -7,9 +7,9 @@ ghost use Rattle.local_mesh.specs.Halos.{IsSetHalo};
 
 use crate::halo_lists::exports::empty_exports;
 use crate::halo_lists::types::SetHalo;
+use crate::rank_sets::empty_lists;
 use mesh_decl::{Mesh, Owners};
 use op_num::OutOfMemory;
-use crate::rank_sets::empty_lists;
 use std::alloc::Global;
 
 // The halos of one set: the one rank imports and exports nothing, and each element is core.

@@ -114,10 +114,11 @@ module _ (places : List Pos) (file : Names) where
     stmt_fits k own next (tree.IfElse at c x y) h =
         let last = word_at k word.Else ∷ stmt (suc k) y in
         let rest = stmt (suc k) x ++ last in
-        let m = back (condition k at c) rest h in
-        (value_fits places (scope file own) c (condition_read k at c (front (condition k at c) rest h)),
-            stmt_fits (suc k) own next x (front (stmt (suc k) x) last m),
-            stmt_fits (suc k) own (behind next (cells x)) y (back (stmt (suc k) x) last m).1)
+        let m = back (condition k at c) rest h in (
+          value_fits places (scope file own) c (condition_read k at c (front (condition k at c) rest h)),
+          stmt_fits (suc k) own next x (front (stmt (suc k) x) last m),
+          stmt_fits (suc k) own (behind next (cells x)) y (back (stmt (suc k) x) last m).1,
+        )
     stmt_fits k own next (tree.For g x) h =
         (below g.to.value h.1.1.1.1.1.1.1.1.1.0, stmt_fits (suc k) (with_counter own next g) (behind next 1) x (back (print.counter k g) (stmt (suc k) x) h))
 

@@ -161,9 +161,11 @@ module _ (file : Names) where
         let d = none_of_both (host_breaches file own fixed x) later b.1 in
         let last = word_at k word.Else ∷ host (suc k) y in
         let rest = host (suc k) x ++ last in
-        let m = back (condition k at c) rest h in
-        (condition_read k at c (front (condition k at c) rest h), host_read (suc k) own fixed x (front (host (suc k) x) last m) d.0,
-            host_read (suc k) (own_after own x) (fixed_after file own fixed x) y (back (host (suc k) x) last m).1 d.1)
+        let m = back (condition k at c) rest h in (
+          condition_read k at c (front (condition k at c) rest h),
+          host_read (suc k) own fixed x (front (host (suc k) x) last m) d.0,
+          host_read (suc k) (own_after own x) (fixed_after file own fixed x) y (back (host (suc k) x) last m).1 d.1,
+        )
     host_read k own fixed (tree.HostFor f x) h e =
         let b = none_of_both (header_breaches file own f) (host_breaches file (with_host_counter own f) fixed x) e in
         let r = header_read k f (front (host_counter k f) (host (suc k) x) h) in
@@ -201,7 +203,7 @@ read_whole bytes p r e =
     let b = none_of_both (tops_breaches (named_in p) [] p.tops) (hosts_breaches (file_of p) [] [] p.main.body) e in
     let m = marks_fit bytes p r in
     let last = named_word 0 word.OpExit p.main.exit_at ∷ sign_at 0 sign.LeftParen ∷ sign_at 0 sign.RightParen ∷ sign_at 0 sign.Semicolon
-        ∷ (return_marks p.main.returned ++ sign_at 0 sign.RightBrace ∷ []) in
+    ∷ (return_marks p.main.returned ++ sign_at 0 sign.RightBrace ∷ []) in
     let rest = sign_at 0 sign.RightParen ∷ sign_at 0 sign.LeftBrace ∷ (hosts 1 p.main.body ++ last) in
     let n = (back (tops p.tops) (main p.main) m).1.1.1.1.1.1.1 in
     record {

@@ -1,5 +1,5 @@
 -- Lists without an element, and tests that did not hold.
-use Rattle.std.proofs.Common.{◌≡◌, List, [], ◌∷◌, ◌++◌, Bool, true, false, ◌||◌, refl, sym, subst}
+use Rattle.std.proofs.Common.{◌≡◌, List, [], ◌∷◌, ◌++◌, Bool, true, false, refl, sym, subst}
 
 abbrev pub IsNil : {X : Type 0} → List X → Type 0
 IsNil [] = Unit {0}

@@ -20,7 +20,7 @@ module _ (ranks : ℕ) (some : 0 < ranks) (few : ranks ≤ 64) (g : MeshValue) (
   after_next : (known0 : ℕ → Bool) (sets0 : ℕ → List ℕ) (turn : ℕ) → turn < set_count g → After known0 sets0 turn → After known0 sets0 (turn + 1)
   after_next known0 sets0 turn l a = ⊎_elim
       (λ (none : any_below (set_count g) (λ t. not (get_or a.known t false)) ≡ false). record
-          { items = a.items; known = a.known; is = turn_none g ranks turn known0 sets0 a.items a.known l a.is none })
+      { items = a.items; known = a.known; is = turn_none g ranks turn known0 sets0 a.items a.known l a.is none })
       (λ (n : Next ranks some g (λ t. get_or a.items t []) (λ t. get_or a.known t false)). record {
         items = set a.items n.set n.list;
         known = set a.known n.set true;

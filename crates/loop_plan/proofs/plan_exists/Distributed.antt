@@ -18,7 +18,7 @@ use Rattle.loop_plan.proofs.plan_exists.RankMeshes.{rank_mesh, rank_mesh_is}
 module _
     (maps : (g : MeshValue) → IsMesh g → (m : ℕ) → m < map_count g → IsMapAt g m)
     (copied : (g : MeshValue) (o : Owners) (m x i r : ℕ) → m < map_count g → x < set_size g (map_from g m)
-        → executes g o (map_from g m) x r ≡ true → i < map_dim g m → has_copy g o (map_to g m) (target g m x i) r ≡ true)
+    → executes g o (map_from g m) x r ≡ true → i < map_dim g m → has_copy g o (map_to g m) (target g m x i) r ≡ true)
     (g : MeshValue) (o : Owners) (p : Perms) (mesh : IsMesh g) (short : FitsMemory g) (own : AreOwners g o) (perms : ArePerms g p)
   where
     all_meshes : List RankMesh

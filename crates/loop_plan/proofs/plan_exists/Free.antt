@@ -88,7 +88,7 @@ module _ (t : ℕ → ℕ → Bool) where
   colours_at zero p l = absurd (omega arith)
   colours_at (suc n) p l = ⊎_elim
       (λ (e : p ≡ n). subst (λ z. get_or (colours n ++ (free_colour n (colours n) ∷ [])) z 0 ≡ free_colour z (colours z)) (sym e)
-          (get_or_push (colours n) (free_colour n (colours n)) 0 n (length_colours n)))
+      (get_or_push (colours n) (free_colour n (colours n)) 0 n (length_colours n)))
       (λ (e : p ≡ n → ⊥). get_or_append_left (colours n) (free_colour n (colours n) ∷ []) 0 p (let h = length_colours n in omega arith) ∙ colours_at n p (omega arith))
       (cases_eq p n)
 

@@ -75,7 +75,7 @@ module _ (ranks : ℕ) (some : 0 < ranks) (n : ℕ) (values : List ℤ) (dim : �
         a.halved
         (joined_other lo many xs c.lower c.upper more a b)
         (λ e m. same_halved e n ranks values dim b.owner (joined lo many xs c.lower c.upper more a b) (lo + many / 2) (many - many / 2)
-            c.upper (joined_upper lo many xs c.lower c.upper more a b) (b.halved e m))
+        c.upper (joined_upper lo many xs c.lower c.upper more a b) (b.halved e m))
         d;
   }
 

@@ -109,8 +109,8 @@ module _ (ranks : ℕ) (some : 0 < ranks) where
         by_names none (inl none_names) = by_blocks none none_names (first (λ t. not (known t)) (set_count g))
         by_names none (inr k) = ⊎_elim
             (λ (h : any_below (map_count g) (leads_from_known g known k.0) ≡ false). clash
-                (any_below (map_count g) (leads_from_known g known k.0))
-                (and_parts (not (known k.0)) (any_below (map_count g) (leads_from_known g known k.0)) k.1.passes).1 h)
+            (any_below (map_count g) (leads_from_known g known k.0))
+            (and_parts (not (known k.0)) (any_below (map_count g) (leads_from_known g known k.0)) k.1.passes).1 h)
             (λ (m : (j : ℕ) × IsFirst (map_count g) (leads_from_known g known k.0) j). inr (next_by_names m.0 k.0 none k.1 m.1))
             (first (leads_from_known g known k.0) (map_count g))
 
@@ -120,7 +120,7 @@ module _ (ranks : ℕ) (some : 0 < ranks) where
         by_targets (inl none) = by_names none (first (can_follow_names g known) (set_count g))
         by_targets (inr k) = ⊎_elim
             (λ (h : any_below (map_count g) (leads_to_known g known k.0) ≡ false). clash
-                (any_below (map_count g) (leads_to_known g known k.0))
-                (and_parts (not (known k.0)) (any_below (map_count g) (leads_to_known g known k.0)) k.1.passes).1 h)
+            (any_below (map_count g) (leads_to_known g known k.0))
+            (and_parts (not (known k.0)) (any_below (map_count g) (leads_to_known g known k.0)) k.1.passes).1 h)
             (λ (m : (j : ℕ) × IsFirst (map_count g) (leads_to_known g known k.0) j). inr (next_by_targets m.0 k.0 k.1 m.1))
             (first (leads_to_known g known k.0) (map_count g))

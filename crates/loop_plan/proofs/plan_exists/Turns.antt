@@ -38,7 +38,7 @@ count_add zero z p l h = absurd (omega arith)
 count_add (suc n) z p l h = ⊎_elim
     (λ (e : z ≡ n).
     let below : count_below n (λ y. p y || (nat_eq y z || false)) ≡ count_below n p =
-        count_agree n (λ y. p y || (nat_eq y z || false)) p (λ y m. one_more (p y) (nat_eq y z) (ne_eqb y z (λ q. omega arith))) in
+    count_agree n (λ y. p y || (nat_eq y z || false)) p (λ y m. one_more (p y) (nat_eq y z) (ne_eqb y z (λ q. omega arith))) in
     let here : (p n || (nat_eq n z || false)) ≡ true = now_true (p n) (nat_eq n z) (eq-eqb n z (sym e)) in
     let was : p n ≡ false = subst (λ w. p w ≡ false) e h in
     rw (below, here, was) (omega arith))

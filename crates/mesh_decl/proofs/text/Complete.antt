@@ -65,8 +65,8 @@ goes_pieces f es name (p ∷ ps) left zs ys a h =
     let rest : left - n - length a.1 ≡ left - length ys = omega arith in
     let all : (zs ++ replicate n z) ++ a.1 ≡ zs ++ ys = append_assoc zs (replicate n z) a.1 ∙ ap (λ xs. zs ++ xs) (ap (λ xs. xs ++ a.1) (sym a.3.3) ∙ sym a.2) in
     let tail : Goes step finish (filled f es name (left - n) (zs ++ replicate n z)) ps
-        (filled f es name (left - n - length a.1) ((zs ++ replicate n z) ++ a.1)) =
-        goes_pieces f es name ps (left - n) (zs ++ replicate n z) a.1 a.4 (omega arith) in
+    (filled f es name (left - n - length a.1) ((zs ++ replicate n z) ++ a.1)) =
+    goes_pieces f es name ps (left - n) (zs ++ replicate n z) a.1 a.4 (omega arith) in
     let tail2 = subst (λ k. Goes step finish (filled f es name (left - n) (zs ++ replicate n z)) ps (filled f es name k ((zs ++ replicate n z) ++ a.1))) rest tail in
     let tail3 = subst (λ xs. Goes step finish (filled f es name (left - n) (zs ++ replicate n z)) ps (filled f es name (left - length ys) xs)) all tail2 in
     goes_on step finish (filled f es name left zs) (filled f es name (left - n) (zs ++ replicate n z)) (filled f es name (left - length ys) (zs ++ ys)) p ps
@@ -82,8 +82,8 @@ goes_many f es name count pieces n zs new e fits room a le =
     goes_on step finish (Between f es) (ManyName f es) _ (codes "ints") (name ∷ count ∷ pieces) (λ w t. step-between f es w ∙ ap (λ x. began f es (keyword_of x) (piece_of f x) w.line) t)
     (goes_on step finish (ManyName f es) (Count f es name) _ name (count ∷ pieces) (λ w t. step-many_name f es w ∙ ap (λ r. onto r (Count f es)) (new_named es w name t new))
     (goes_on step finish (Count f es name) (filled f es name n []) _ count pieces
-        (λ w t. step-count f es name w ∙ ap (λ r. onto r (λ k. filled f es name k []))
-        (ap (λ x. count_of (total es) w.line (number_of x)) t ∙ fits_count (total es) w.line count n e fits room))
+    (λ w t. step-count f es name w ∙ ap (λ r. onto r (λ k. filled f es name k []))
+    (ap (λ x. count_of (total es) w.line (number_of x)) t ∙ fits_count (total es) w.line count n e fits room))
     (goes_pieces f es name pieces n [] zs a le)))
 
 goes_one_entry : (f : Form) (es : List Named) (name value : List ℕ) (z : ℤ) → IsNew name es → IsValue value z → total es + 1 ≤ MESH_VALUES
@@ -92,8 +92,8 @@ goes_one_entry f es name value z new v room =
     goes_on step finish (Between f es) (OneName f es) _ (codes "int") (name ∷ value ∷ []) (λ w t. step-between f es w ∙ ap (λ x. began f es (keyword_of x) (piece_of f x) w.line) t)
     (goes_on step finish (OneName f es) (OneValue f es name) _ name (value ∷ []) (λ w t. step-one_name f es w ∙ ap (λ r. onto r (OneValue f es)) (new_named es w name t new))
     (goes_one step finish (OneValue f es name) (Between f (es ++ (name, One z) ∷ [])) value
-        (λ w t. step-one_value f es name w ∙ ap (λ r. onto r (λ y. Between f (es ++ (name, One y) ∷ [])))
-        (ap (λ x. one_of (total es) w.line (i32_judged (integer_of x))) t ∙ fits_one (total es) w.line value z v room))))
+    (λ w t. step-one_value f es name w ∙ ap (λ r. onto r (λ y. Between f (es ++ (name, One y) ∷ [])))
+    (ap (λ x. one_of (total es) w.line (i32_judged (integer_of x))) t ∙ fits_one (total es) w.line value z v room))))
 
 goes_entry : (f : Form) (es : List Named) (ts : List (List ℕ)) (name : List ℕ) (e : Entry) → IsEntry f ts name e → IsNew name es
     → total es + size_of (name, e) ≤ MESH_VALUES → Goes step finish (Between f es) ts (Between f (es ++ (name, e) ∷ []))
@@ -117,7 +117,7 @@ goes_entries f before ts (e ∷ es) a room =
     let all : total ((before ++ e ∷ []) ++ es) ≡ total (before ++ e ∷ es) = ap total regroup in
     let one : total before + size_of e ≤ MESH_VALUES = omega arith in
     let rest : Goes step finish (Between f (before ++ e ∷ [])) a.1 (Between f ((before ++ e ∷ []) ++ es)) =
-        goes_entries f (before ++ e ∷ []) a.1 es a.5 (subst (λ xs. total xs ≤ MESH_VALUES) (sym regroup) room) in
+    goes_entries f (before ++ e ∷ []) a.1 es a.5 (subst (λ xs. total xs ≤ MESH_VALUES) (sym regroup) room) in
     subst (λ xs. Goes step finish (Between f before) xs (Between f (before ++ e ∷ es))) (sym a.2)
     (goes_join step finish (Between f before) (Between f (before ++ e ∷ [])) (Between f (before ++ e ∷ es)) a.0 a.1
     (goes_entry f before a.0 e.0 e.1 a.3 a.4 one)
@@ -165,7 +165,7 @@ stands_goes (Pieces f es name left zs) ts s =
     let some : 0 < left = s.9 in
     let rest : length zs + left - length zs ≡ left = omega arith in
     let many : Goes step finish (Between f es) (codes "ints" ∷ name ∷ s.1 ∷ s.2) (filled f es name (length zs + left - length zs) zs) =
-        goes_many f es name s.1 s.2 (length zs + left) zs s.5 s.6 s.7 s.8 s.10 le in
+    goes_many f es name s.1 s.2 (length zs + left) zs s.5 s.6 s.7 s.8 s.10 le in
     subst (λ xs. Goes step finish Magic xs (Pieces f es name left zs)) (sym s.3)
     (goes_join step finish Magic (Between f es) (Pieces f es name left zs) s.0 (codes "ints" ∷ name ∷ s.1 ∷ s.2) (goes_mesh f s.0 es s.4)
     (subst (λ q. Goes step finish (Between f es) (codes "ints" ∷ name ∷ s.1 ∷ s.2) q) (ap (λ k. filled f es name k zs) rest ∙ filled-more f es name left zs some) many))

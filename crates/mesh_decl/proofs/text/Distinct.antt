@@ -27,8 +27,8 @@ unfolding IsDistinct
 apart [] es e d = refl
 apart (b ∷ bs) es e d =
     let other : bytes_eq e.0 b.0 ≡ false = unequal b.0 e.0
-        (middle (λ y. bytes_eq b.0 y ≡ false) (keys_of bs) (keys_of es) e.0
-        (subst (AllByRecursion (λ y. bytes_eq b.0 y ≡ false)) (map-append (λ (n : Named). n.0) bs (e ∷ es)) d.0)) in
+    (middle (λ y. bytes_eq b.0 y ≡ false) (keys_of bs) (keys_of es) e.0
+    (subst (AllByRecursion (λ y. bytes_eq b.0 y ≡ false)) (map-append (λ (n : Named). n.0) bs (e ∷ es)) d.0)) in
     rw other (apart bs es e d.1)
 
 pub have_spelling : (before es : List Named) → IsDistinct bytes_eq (keys_of (before ++ es)) → CanBeSpelled es → All (λ (e : Named). HasI32 e.1) es → HaveSpelling before es

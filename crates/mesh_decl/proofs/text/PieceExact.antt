@@ -65,10 +65,21 @@ split_sound text n z h = go (nat_eq (prefix_len no_star text) (length text)) ref
         Values n z → Gives form.Two text n z × (0 < n) × (n < 2 ^ 31)
     go true t h = let k = value_sound (i32_judged (integer_of text)) n z h in let one : n ≡ 1 = k.0 in (inl k, omega arith, omega arith)
     go false t h =
-        let k = run_sound (u64_judged (number_of (take (prefix_len no_star text) text))) (i32_judged (integer_of (drop 1 (drop (prefix_len no_star text) text)))) n z h in
-        (inr (record { times = take (prefix_len no_star text) text; value = drop 1 (drop (prefix_len no_star text) text); whole =
-            split_star text t; number = u64_some (number_of (take (prefix_len no_star text) text)) n k.0; some = k.2; fits = k.3; spells =
-            k.1 }), k.2, k.3)
+        let k = run_sound (u64_judged (number_of (take (prefix_len no_star text) text))) (i32_judged (integer_of (drop 1 (drop (prefix_len no_star text) text)))) n z h in (
+          inr (record {
+            times = take (prefix_len no_star text) text;
+            value = drop 1 (drop (prefix_len no_star text) text);
+            whole =
+                split_star text t;
+            number = u64_some (number_of (take (prefix_len no_star text) text)) n k.0;
+            some = k.2;
+            fits = k.3;
+            spells =
+                k.1;
+          }),
+          k.2,
+          k.3,
+        )
 
 pub piece_sound : (f : Form) (text : List ℕ) (n : ℕ) (z : ℤ) → piece_of f text ≡ Values n z → Gives f text n z × (0 < n) × (n < 2 ^ 31)
 piece_sound form.One text n z h = let k = value_sound (i32_judged (integer_of text)) n z h in let one : n ≡ 1 = k.0 in (k, omega arith, omega arith)

@@ -118,9 +118,14 @@ module _ (printed : (z : ℤ) → FitsSigned w32 z → i32_judged (integer_of (s
 
   entries_spell : (f : Form) (before es : List Named) → HaveSpelling before es → AreEntries f before (concat (flat_map (entry_lines f) es)) es
   entries_spell f before [] h = refl
-  entries_spell f before (e ∷ es) h =
-      (concat (entry_lines f e), concat (flat_map (entry_lines f) es), concat_append (entry_lines f e) (flat_map (entry_lines f) es),
-          entry_spells f e.0 e.1 h.1 h.2, h.0, entries_spell f (before ++ e ∷ []) es h.3)
+  entries_spell f before (e ∷ es) h = (
+    concat (entry_lines f e),
+    concat (flat_map (entry_lines f) es),
+    concat_append (entry_lines f e) (flat_map (entry_lines f) es),
+    entry_spells f e.0 e.1 h.1 h.2,
+    h.0,
+    entries_spell f (before ++ e ∷ []) es h.3,
+  )
 
   -- every word is a token
   piece_token : (n : ℕ) (z : ℤ) → n < 2 ^ 31 → FitsSigned w32 z → IsToken (piece_text (n, z))

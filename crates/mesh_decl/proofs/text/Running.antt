@@ -1,5 +1,5 @@
 -- One token of a mesh text after another.
-use Rattle.std.proofs.Common.{◌≡◌, ℕ, ℤ, ◌+◌, ◌-◌, ◌<◌, ◌≤◌, ◌++◌, length, true, false, arith, ◌⊎◌, List, [], ◌∷◌, Some, None, Ok, Err, refl, sym, ap, ◌∙◌, inr, nat_eq, Option, is_some, length-append}
+use Rattle.std.proofs.Common.{◌≡◌, ℕ, ℤ, ◌+◌, ◌-◌, ◌<◌, ◌≤◌, ◌++◌, length, true, false, arith, ◌⊎◌, List, [], ◌∷◌, None, Ok, Err, refl, sym, ap, ◌∙◌, inr, nat_eq, length-append}
 use Rattle.std.proofs.lemmas.List.{length-replicate}
 use Rattle.std.proofs.lemmas.List.Sums.{sum_by_push}
 use Rattle.std.proofs.lemmas.Bool.Decides.{nat_tests}
@@ -110,7 +110,7 @@ pub piece_given : (f : Form) (es : List Named) (name : List ℕ) (left : ℕ) (z
 piece_given f es name left zs ys u v w k z more n h e =
     ap (λ p. run_from p u) (filled-more f es name left zs more)
     ∙ run_onto step finish (Pieces f es name left zs) u v w (k, z) (given left w.line (piece_of f w.text))
-        (λ g. filled f es name (left - g.0) (zs ++ replicate g.0 g.1)) n (step-pieces f es name left zs w) (sym h)
+    (λ g. filled f es name (left - g.0) (zs ++ replicate g.0 g.1)) n (step-pieces f es name left zs w) (sym h)
     ∙ ap (λ xs. run_from (filled f es name (left - k) xs) v) (sym e)
 
 pub piece_refused : (f : Form) (es : List Named) (name : List ℕ) (left : ℕ) (zs : List ℤ) (u v : Uncut) (w : Word) (e : MeshRefusal)
@@ -118,8 +118,8 @@ pub piece_refused : (f : Form) (es : List Named) (name : List ℕ) (left : ℕ) 
 piece_refused f es name left zs u v w e more n h =
     ap (λ p. run_from p u) (filled-more f es name left zs more)
     ∙ run_refused step finish (Pieces f es name left zs) u v w e n
-        (step-pieces f es name left zs w ∙ onto_err (given left w.line (piece_of f w.text))
-        (λ g. filled f es name (left - g.0) (zs ++ replicate g.0 g.1)) e (sym h))
+    (step-pieces f es name left zs w ∙ onto_err (given left w.line (piece_of f w.text))
+    (λ g. filled f es name (left - g.0) (zs ++ replicate g.0 g.1)) e (sym h))
 
 pub piece_missing : (f : Form) (es : List Named) (name : List ℕ) (left : ℕ) (zs : List ℤ) (u : Uncut) (e : MeshRefusal) → 0 < left
     → first_of u ≡ None → e ≡ WrongCount u.last → run_from (filled f es name left zs) u ≡ Err e

@@ -1,5 +1,5 @@
 -- A short number as a token where values are awaited.
-use Rattle.std.proofs.Common.{◌≡◌, ℕ, ℤ, pos, negsuc, ◌^◌, ◌<◌, Bool, true, false, cond, nat_lt, nat_le, List, length, Option, Some, None, Ok, refl, sym, ap, ◌∙◌, arith, inl, w32, FitsSigned}
+use Rattle.std.proofs.Common.{◌≡◌, ℕ, ℤ, pos, negsuc, ◌<◌, Bool, true, false, cond, nat_le, List, length, Option, Some, None, Ok, refl, sym, ap, ◌∙◌, arith, inl, w32, FitsSigned}
 use Rattle.std.proofs.lemmas.Bool.Decides.{nat_tests}
 use Rattle.op_num.specs.Spelling.{integer_of, fits_i32, i32_judged}
 use Rattle.op_num.specs.Cut.{Word, Uncut, first_of, rest_of}

@@ -39,9 +39,14 @@ pieces_more f (q ∷ ps) p zs ys a i = (a.0, a.1 ++ ys, (ap (λ xs. xs ++ ys) a.
 entries_more : (f : Form) (before : List Named) (ts front : List (List ℕ)) (es : List Named) (e : Named) → AreEntries f before ts es
     → IsEntry f front e.0 e.1 → IsNew e.0 (before ++ es) → AreEntries f before (ts ++ front) (es ++ e ∷ [])
 entries_more f before ts front [] e a i n = (front, [], (ap (λ xs. xs ++ front) a ∙ sym (append-nil front)), i, subst (IsNew e.0) (append-nil before) n, refl)
-entries_more f before ts front (x ∷ es) e a i n =
-    (a.0, a.1 ++ front, (ap (λ xs. xs ++ front) a.2 ∙ append_assoc a.0 a.1 front), a.3, a.4,
-    entries_more f (before ++ x ∷ []) a.1 front es e a.5 i (subst (IsNew e.0) (sym (append_assoc before (x ∷ []) es)) n))
+entries_more f before ts front (x ∷ es) e a i n = (
+  a.0,
+  a.1 ++ front,
+  (ap (λ xs. xs ++ front) a.2 ∙ append_assoc a.0 a.1 front),
+  a.3,
+  a.4,
+  entries_more f (before ++ x ∷ []) a.1 front es e a.5 i (subst (IsNew e.0) (sym (append_assoc before (x ∷ []) es)) n),
+)
 
 mesh_more : (f : Form) (ts front : List (List ℕ)) (es : List Named) (e : Named) → AreMesh f ts es → IsEntry f front e.0 e.1 → IsNew e.0 es → AreMesh f (ts ++ front) (es ++ e ∷ [])
 mesh_more f ts front es e m i n = (m.0 ++ front, (ap (λ xs. xs ++ front) m.1 ∙ append_assoc (header f) m.0 front), entries_more f [] m.0 front es e m.2 i n)
@@ -83,15 +88,15 @@ word_of keyword.Done = codes "done"
 keyword_is : (text : List ℕ) (k : Keyword) → keyword_of text ≡ Some k → text ≡ word_of k
 keyword_is text w h = elim (cond_cases (bytes_eq text (codes "int")) (Some keyword.Int)
     (cond (bytes_eq text (codes "ints")) (Some keyword.Ints) (cond (bytes_eq text (codes "done")) (Some keyword.Done) None)) (Some w) h) [
-  | inl k ↦ let e : keyword.Int ≡ w = cc in bytes_eq_same text (codes "int") k.0 ∙ ap word_of e
-  | inr k ↦ elim (cond_cases (bytes_eq text (codes "ints")) (Some keyword.Ints) (cond (bytes_eq text (codes "done")) (Some keyword.Done) None) (Some w) k.1) [
-    | inl m ↦ let e : keyword.Ints ≡ w = cc in bytes_eq_same text (codes "ints") m.0 ∙ ap word_of e
-    | inr m ↦ elim (cond_cases (bytes_eq text (codes "done")) (Some keyword.Done) None (Some w) m.1) [
-      | inl n ↦ let e : keyword.Done ≡ w = cc in bytes_eq_same text (codes "done") n.0 ∙ ap word_of e
-      | inr n ↦ absurd (cc n.1)
+      | inl k ↦ let e : keyword.Int ≡ w = cc in bytes_eq_same text (codes "int") k.0 ∙ ap word_of e
+      | inr k ↦ elim (cond_cases (bytes_eq text (codes "ints")) (Some keyword.Ints) (cond (bytes_eq text (codes "done")) (Some keyword.Done) None) (Some w) k.1) [
+        | inl m ↦ let e : keyword.Ints ≡ w = cc in bytes_eq_same text (codes "ints") m.0 ∙ ap word_of e
+        | inr m ↦ elim (cond_cases (bytes_eq text (codes "done")) (Some keyword.Done) None (Some w) m.1) [
+          | inl n ↦ let e : keyword.Done ≡ w = cc in bytes_eq_same text (codes "done") n.0 ∙ ap word_of e
+          | inr n ↦ absurd (cc n.1)
+        ]
+      ]
     ]
-  ]
-]
 
 named_is : (es : List Named) (w : Word) (name : List ℕ) → named es w ≡ Ok name → (w.text ≡ name) × IsNew name es
 unfolding named
@@ -213,8 +218,8 @@ behind_count f es name q ts w s h =
     let room : total es + o.0 ≤ MESH_VALUES = v.2 in
     let same : o.0 ≡ 0 + o.0 = omega arith in
     subst (Stands (ts ++ w.text ∷ [])) o.2
-        (filled_stands f es name o.0 [] s.0 w.text [] (ts ++ w.text ∷ [])
-        (with_one ts s.0 (codes "ints" ∷ name ∷ []) w.text w.text s.1 refl) s.2 s.3 (v.0 ∙ ap Some same) (omega arith) (omega arith) refl)
+    (filled_stands f es name o.0 [] s.0 w.text [] (ts ++ w.text ∷ [])
+    (with_one ts s.0 (codes "ints" ∷ name ∷ []) w.text w.text s.1 refl) s.2 s.3 (v.0 ∙ ap Some same) (omega arith) (omega arith) refl)
 
 behind_pieces : (f : Form) (es : List Named) (name : List ℕ) (left : ℕ) (zs : List ℤ) (q : State) (ts : List (List ℕ)) (w : Word)
     → Stands ts (Pieces f es name left zs) → onto (given left w.line (piece_of f w.text))

@@ -17,9 +17,9 @@ ghost use Rattle.mesh_decl.specs.Answered.{Leads, Fitting, next_state};
 use crate::text::entry::{Entries, Entry, Form, MESH_VALUES, MeshRefusal, Values};
 use crate::text::piece::{Piece, read_piece};
 use crate::text::token::{Keyword, is_magic, is_name, read_keyword, read_version};
+use op_num::texts::{Token, Tokens};
 use op_num::{Name, NumRefusal, read_i32, read_u64};
 use std::alloc::Global;
-use op_num::texts::{Token, Tokens};
 
 /// The entries that the mesh text `bytes` spells, in either version of the text. It takes `Entries` of at most
 /// [`MESH_VALUES`] values in all. Each refusal is that of the first token, in order, that may not stand where it does,

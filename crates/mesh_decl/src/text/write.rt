@@ -9,9 +9,9 @@ ghost use Rattle.mesh_decl.specs.Canonical.{canonical, entry_text, groups, piece
 ghost use Rattle.mesh_decl.specs.Canonical.{HaveSpelling};
 
 use crate::text::entry::{Entries, Entry, Form};
+use op_num::texts::lines_are_cut;
 use op_num::{Name, OutOfMemory, number_is_read, printed_is_read, put_i32, put_u64};
 use std::alloc::Global;
-use op_num::texts::lines_are_cut;
 
 /// The canonical text of the entries in this version: the header, then for each entry in order its line, and behind the
 /// line of an array that has values one line with these; then `done`. In version 2 each longest stretch of two or more

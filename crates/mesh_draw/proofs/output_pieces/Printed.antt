@@ -117,8 +117,8 @@ rows_lines dim (suc n) zs some e =
     let behind : length (drop dim zs) ≡ n * dim = omega arith in
     let one_more : 1 + n ≡ suc n = omega arith in
     subst (λ m. AreLines m (flat_map row_text (rows dim (suc n) zs))) one_more
-        (lines_join 1 n (row_text (take dim zs)) (flat_map row_text (rows dim n (drop dim zs))) (full_row (take dim zs) (omega arith))
-        (rows_lines dim n (drop dim zs) some behind))
+    (lines_join 1 n (row_text (take dim zs)) (flat_map row_text (rows dim n (drop dim zs))) (full_row (take dim zs) (omega arith))
+    (rows_lines dim n (drop dim zs) some behind))
 
 -- a dat with as many values as it has
 pub dat_lines : (b : BoundValue) (file : List ℕ) (dat : ℕ) (zs : List ℤ) → 0 < dat_dim b.mesh dat → length zs ≡ set_size b.mesh (dat_set b.mesh dat) * dat_dim b.mesh dat

@@ -115,7 +115,7 @@ module _ (g : MeshValue) (ranks : ℕ) where
       subst (λ k. slice_get (done ++ None ∷ replicate (length rest) None) k ≡ Some None) len (get_behind done (replicate (length rest) None) None),
       subst (λ before. AreSets g ranks (tokens_in (lines_from g (suc s) rest)) (given_from (suc s) rest) before (done ++ map (λ rs. Some rs) (rs ∷ rest)))
           (sym (subst (λ k. slice_set (done ++ None ∷ replicate (length rest) None) k (Some rs) ≡ (done ++ Some rs ∷ []) ++ replicate
-              (length rest) None) len (set_behind done (replicate (length rest) None) None (Some rs))))
+          (length rest) None) len (set_behind done (replicate (length rest) None) None (Some rs))))
           (subst (λ after. AreSets g ranks (tokens_in (lines_from g (suc s) rest)) (given_from (suc s) rest) ((done ++ Some rs ∷ []) ++ replicate (length rest) None) after)
           (append_assoc done (Some rs ∷ []) (map (λ rs. Some rs) rest))
           (sets_are (suc s) rest (done ++ Some rs ∷ []) (length_more done (Some rs) ∙ ap suc len) f.3)),

@@ -12,9 +12,9 @@ ghost use Rattle.metis_text.specs.Answered.{IsUnnamed};
 
 use crate::owner_text::names::first_unnamed;
 use mesh_decl::{Mesh, Owners};
+use op_num::texts::lines_are_cut;
 use op_num::{OutOfMemory, number_is_read, put_u64};
 use std::alloc::{AllocError, Global};
-use op_num::texts::lines_are_cut;
 use thiserror::Error;
 
 /// Why owners are not written.

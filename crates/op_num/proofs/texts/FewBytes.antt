@@ -74,8 +74,8 @@ front_by most b bs true true d t = let e : blank b ≡ false = grind (arith, nat
 front_by most b bs true false d t =
     let e : 0 + suc (prefix_len dark bs) ≡ suc (prefix_len dark bs) = omega arith in
     rw (one-add (prefix_len dark bs))
-        (rw d (digit_step most (0 * 10 + (b - 48)) 0 bs (omega arith) (λ m. along_is most (0 * 10 + (b - 48)) 1 bs m (omega arith))
-        ∙ ap (λ k. counted most k (spelled (0 * 10 + (b - 48)) bs)) e))
+    (rw d (digit_step most (0 * 10 + (b - 48)) 0 bs (omega arith) (λ m. along_is most (0 * 10 + (b - 48)) 1 bs m (omega arith))
+    ∙ ap (λ k. counted most k (spelled (0 * 10 + (b - 48)) bs)) e))
 front_by most b bs false true d t = sym (both_none (nat_le 0 most))
 front_by most b bs false false d t = rw (one-add (prefix_len dark bs)) (rw d (sym (both_none (nat_le (suc (prefix_len dark bs)) most))))
 

@@ -25,9 +25,11 @@ len_by false k n z o h = cc
 -- the bytes of a short number are those of a token
 pub front_len : (z : ℤ) (k : ℕ) (rest : List ℕ) → Some (z, k) ≡ front_integer rest → (k ≡ prefix_len dark rest) × (k ≡ 0 → ⊥)
 front_len z k rest h =
-    let l = len_by (nat_le (prefix_len dark rest) 9) k (prefix_len dark rest) z (integer_of (take (prefix_len dark rest) rest)) h in
-    (l.0, λ e. (let n : integer_of (take (prefix_len dark rest) rest) ≡ None = ap (λ j. integer_of (take j rest)) (sym l.0 ∙ e) in
-        let o : integer_of (take (prefix_len dark rest) rest) ≡ Some z = l.1 in cc))
+    let l = len_by (nat_le (prefix_len dark rest) 9) k (prefix_len dark rest) z (integer_of (take (prefix_len dark rest) rest)) h in (
+      l.0,
+      λ e. (let n : integer_of (take (prefix_len dark rest) rest) ≡ None = ap (λ j. integer_of (take j rest)) (sym l.0 ∙ e) in
+          let o : integer_of (take (prefix_len dark rest) rest) ≡ Some z = l.1 in cc),
+    )
 
 module _ (u : Uncut) (last line at : ℕ) (bytes rest : List ℕ) (view : record { last = last; words = words line bytes } ≡ u)
     (same : words line bytes ≡ words at rest) (front : IsDark rest) (within : prefix_len dark rest ≤ length rest) where

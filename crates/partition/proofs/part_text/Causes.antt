@@ -1,5 +1,5 @@
 -- A text comes to one outcome, its owners or a refusal, and want of memory is none.
-use Rattle.std.proofs.Common.{◌≡◌, ℕ, Bool, true, false, if◌then◌else◌, nat_eq, nat_lt, ◌-◌, List, [], ◌∷◌, Option, Some, None, Result, Ok, Err, refl, sym, ◌∙◌, subst, inl, inr}
+use Rattle.std.proofs.Common.{◌≡◌, ℕ, Bool, true, false, if◌then◌else◌, nat_eq, nat_lt, List, [], ◌∷◌, Option, Some, None, Result, Ok, Err, refl, sym, ◌∙◌, subst, inl, inr}
 use Rattle.std.specs.Prelude.{slice_get}
 use Rattle.op_num.specs.Spelling.{number_of}
 use Rattle.op_num.specs.Cut.{Word, words}
@@ -12,7 +12,7 @@ use Rattle.partition.specs.declared.part_text.token.Keyword.{Keyword}
 use Rattle.partition.specs.declared.part_text.token.Keyword.TheVariants as keyword
 use Rattle.partition.specs.Token.{is_magic, is_version, keyword_of}
 use Rattle.partition.specs.Spelling.{Table}
-use Rattle.partition.specs.Reading.{State, Magic, Version, Between, SetName, Count, Ranks, End, Read, Reads, Refuses, gathered, stray, began, free_set, named, set_of, sized, ranked, step, finish}
+use Rattle.partition.specs.Reading.{State, Magic, Version, Between, SetName, Count, Ranks, End, Read, Reads, Refuses, gathered, began, free_set, named, set_of, sized, ranked, step, finish}
 use Rattle.partition.proofs.part_text.Exact.{Fronts, fronts_on, finish_is, spelled-run}
 use Rattle.partition.proofs.part_text.Complete.{stands_through}
 

@@ -65,7 +65,7 @@ module _ (g : MeshValue) (ranks : ℕ) where
   rank_on t k left rs digits r more n l w e =
       let o : number_of w.text ≡ Some r = ap number_of e ∙ n in
       ap (λ q. step g ranks q w) (filled-more t k left rs more) ∙ step-ranks g ranks t k left rs w
-          ∙ ap (λ x. onto x (λ y. filled t k (left - 1) (rs ++ y ∷ []))) (is_ranked ranks (number_of w.text) w.line r o l)
+      ∙ ap (λ x. onto x (λ y. filled t k (left - 1) (rs ++ y ∷ []))) (is_ranked ranks (number_of w.text) w.line r o l)
 
   -- the ranks of a set
   goes_ranks : (t : Table) (k : ℕ) (ds : List (List ℕ)) (left rest : ℕ) (rs qs all : List ℕ) → AreRanks ranks ds qs
@@ -105,7 +105,7 @@ module _ (g : MeshValue) (ranks : ℕ) where
   goes_sets ts (s ∷ ss) before t a =
       subst (λ xs. Goes (step g ranks) finish (Between before) xs (Between t)) (sym a.2)
       (goes_join (step g ranks) finish (Between before) (Between (slice_set before s.0 (Some s.1))) (Between t) a.0 a.1
-          (goes_set before a.0 s.0 s.1 a.3 a.4) (goes_sets a.1 ss (slice_set before s.0 (Some s.1)) t a.5))
+      (goes_set before a.0 s.0 s.1 a.3 a.4) (goes_sets a.1 ss (slice_set before s.0 (Some s.1)) t a.5))
 
   goes_part : (ts : List (List ℕ)) (t : Table) → ArePart g ranks ts t → Goes (step g ranks) finish Magic ts (Between t)
   goes_part ts t p =

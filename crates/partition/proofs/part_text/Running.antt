@@ -96,14 +96,14 @@ module _ (g : MeshValue) (ranks : ℕ) where
       → Ok n ≡ sized size (number_of w.text) w.line → run_from g ranks (Count t k) u ≡ run_from g ranks (filled t k n []) v
   counted t k size u v w n s x h =
       run_onto (step g ranks) finish (Count t k) u v w n (sized (set_size g k) (number_of w.text) w.line) (λ m. filled t k m []) x
-          (step-count t k w) (ap (λ m. sized m (number_of w.text) w.line) (sym s) ∙ sym h)
+      (step-count t k w) (ap (λ m. sized m (number_of w.text) w.line) (sym s) ∙ sym h)
 
   pub count_refused : (t : Table) (k size : ℕ) (u v : Uncut) (w : Word) (e : PartRefusal) → size ≡ set_size g k → IsNext u v w
       → Err e ≡ sized size (number_of w.text) w.line → run_from g ranks (Count t k) u ≡ Err e
   count_refused t k size u v w e s x h =
       run_refused (step g ranks) finish (Count t k) u v w e x
-          (step-count t k w ∙ onto_err (sized (set_size g k) (number_of w.text) w.line) (λ m. filled t k m []) e
-          (ap (λ m. sized m (number_of w.text) w.line) (sym s) ∙ sym h))
+      (step-count t k w ∙ onto_err (sized (set_size g k) (number_of w.text) w.line) (λ m. filled t k m []) e
+      (ap (λ m. sized m (number_of w.text) w.line) (sym s) ∙ sym h))
 
   pub rank_given : (t : Table) (k left : ℕ) (rs : List ℕ) (u v : Uncut) (w : Word) (r : ℕ) → 0 < left → IsNext u v w
       → Ok r ≡ ranked ranks (number_of w.text) w.line → run_from g ranks (filled t k left rs) u ≡ run_from g ranks
@@ -117,8 +117,8 @@ module _ (g : MeshValue) (ranks : ℕ) where
   rank_refused t k left rs u v w e more n h =
       ap (λ p. run_from g ranks p u) (filled-more t k left rs more)
       ∙ run_refused (step g ranks) finish (Ranks t k left rs) u v w e n
-          (step-ranks t k left rs w ∙ onto_err (ranked ranks (number_of w.text) w.line) (λ x. filled t k (left - 1) (rs ++ x ∷ [])) e
-          (sym h))
+      (step-ranks t k left rs w ∙ onto_err (ranked ranks (number_of w.text) w.line) (λ x. filled t k (left - 1) (rs ++ x ∷ [])) e
+      (sym h))
 
   pub rank_missing : (t : Table) (k left : ℕ) (rs : List ℕ) (u : Uncut) (e : PartRefusal) → 0 < left → first_of u ≡ None → e ≡ WrongCount u.last → run_from g ranks (filled t k left rs) u ≡ Err e
   rank_missing t k left rs u e more n h = ap (λ p. run_from g ranks p u) (filled-more t k left rs more) ∙ run_end (step g ranks) finish (Ranks t k left rs) u (Err e) n (ap Err (sym h))

@@ -149,8 +149,8 @@ module _ (g : MeshValue) (ranks : ℕ) where
       let v = sized_is (set_size g k) (number_of w.text) w.line o.0 o.1 in
       let size : 0 + o.0 ≡ set_size g k = omega (arith, v.1) in
       subst (Stands g ranks (ts ++ w.text ∷ [])) o.2
-          (filled_stands t k o.0 [] s.0 s.1 w.text [] (ts ++ w.text ∷ []) (with_one ts s.0 (codes "set" ∷ s.1 ∷ []) w.text w.text s.2 refl)
-          s.3 s.4 v.0 size refl)
+      (filled_stands t k o.0 [] s.0 s.1 w.text [] (ts ++ w.text ∷ []) (with_one ts s.0 (codes "set" ∷ s.1 ∷ []) w.text w.text s.2 refl)
+      s.3 s.4 v.0 size refl)
 
   behind_ranks : (t : Table) (k left : ℕ) (rs : List ℕ) (q : State) (ts : List (List ℕ)) (w : Word) → Stands g ranks ts (Ranks t k left rs)
       → onto (ranked ranks (number_of w.text) w.line) (λ r. filled t k (left - 1) (rs ++ r ∷ [])) ≡ Ok q

@@ -1,11 +1,11 @@
 // That what is asked for comes to one outcome.
 ghost use Rattle.partition.specs.Laws.{NumbersAreOne, OwnersAreOne, DistributionsAreOne};
 
+use crate::part_text::one_outcome;
+use crate::{one_bisection, one_derived, one_growth};
 use local_mesh::halo_lists::one_halos;
 use local_mesh::one_rank_meshes;
 use mesh_decl::one_named;
-use crate::part_text::one_outcome;
-use crate::{one_bisection, one_derived, one_growth};
 use renumber::one_numbering;
 
 /// New numbers come to one outcome.

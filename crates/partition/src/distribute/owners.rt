@@ -5,9 +5,9 @@ ghost use Rattle.partition.specs.Parts.{Bisect, Grow, Text, OwnersRefusal as Ref
 ghost use Rattle.partition.specs.Judgements.{OwnersAre};
 
 use crate::distribute::types::{OwnersRefusal, Parts};
-use mesh_decl::{Mesh, Owners};
 use crate::part_text::{PartRefusal, read_partition};
 use crate::{bisect, block, grow};
+use mesh_decl::{Mesh, Owners};
 use std::alloc::Global;
 
 // Owners by the first dat of this name.

@@ -1,8 +1,8 @@
 // What is asked of a distribution, what it is, and why there is none.
+use crate::part_text::PartRefusal;
 use local_mesh::RankMesh;
 use local_mesh::halo_lists::Halos;
 use mesh_decl::Owners;
-use crate::part_text::PartRefusal;
 use std::alloc::AllocError;
 
 /// How the elements of a mesh are given to ranks.

@@ -15,9 +15,9 @@ ghost use Rattle.partition.specs.Answered.{Leads, LeadsToSet};
 use crate::part_text::refusals::PartRefusal;
 use crate::part_text::token::{Keyword, is_magic, is_version, read_keyword};
 use mesh_decl::{Mesh, Numbers, Owners};
+use op_num::texts::{Token, Tokens};
 use op_num::{NumRefusal, read_u64};
 use std::alloc::Global;
-use op_num::texts::{Token, Tokens};
 
 /// The owners that the partition text `bytes` spells for a mesh and this number of ranks: for each set of the mesh, in
 /// order of declaration, the rank of each of its elements, each below `ranks`. The text may name the sets in any order.

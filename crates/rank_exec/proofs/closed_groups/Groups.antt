@@ -87,7 +87,7 @@ module _ {F : Type 0} (p : Setup F) (l : Layout F) where
     ends_first x (y ∷ ys) h g f =
         let b : Flat F = flat_step p l (Begin k r y) f in
         alike_trans (flat_step p l (End k r x) (go (begins k r ys) b)) (go (begins k r ys) (flat_step p l (End k r x) b))
-            (go (begins k r ys) (flat_step p l (Begin k r y) (flat_step p l (End k r x) f)))
+        (go (begins k r ys) (flat_step p l (Begin k r y) (flat_step p l (End k r x) f)))
         (ends_first x ys h.2 g.2 b)
         (begins_alike k r ys (flat_step p l (End k r x) b) (flat_step p l (Begin k r y) (flat_step p l (End k r x) f)) (end_first p l q k r x y h.0 h.1 g.0 f))
 
@@ -97,7 +97,7 @@ module _ {F : Type 0} (p : Setup F) (l : Layout F) where
     one_by_one (x ∷ xs) h f =
         let b : Flat F = flat_step p l (Begin k r x) f in
         alike_trans (go (ends k r xs) (flat_step p l (End k r x) (go (begins k r xs) b)))
-            (go (ends k r xs) (go (begins k r xs) (flat_step p l (End k r x) b))) (go (alone k r xs) (flat_step p l (End k r x) b))
+        (go (ends k r xs) (go (begins k r xs) (flat_step p l (End k r x) b))) (go (alone k r xs) (flat_step p l (End k r x) b))
         (ends_alike k r xs (flat_step p l (End k r x) (go (begins k r xs) b)) (go (begins k r xs) (flat_step p l (End k r x) b)) (ends_first x xs h.1 h.2 b))
         (one_by_one xs h.2 (flat_step p l (End k r x) b))
 

@@ -26,12 +26,12 @@ use crate::reduce::{reduce_variables, unite_all};
 use crate::running::run_owned;
 use crate::windows::{KernelRun, OwnedWindows};
 use bound_program::{Mesh, ToldAct};
-use run_model::gather::host_acts::{Variables, run_act};
-use run_model::gather::print_dat;
 use kernel_model::types::KernelFault;
 use op_num::{OutOfMemory, Text};
 use rank_state::rank_memory::stop::{Stop, before};
 use rank_state::{Owned, Scalar};
+use run_model::gather::host_acts::{Variables, run_act};
+use run_model::gather::print_dat;
 use std::alloc::Global;
 
 impl Machine {

@@ -24,10 +24,10 @@ filled_front from m (s ∷ ss) f h k =
     let w = cells_at s.at s.dim m in
     let lw : length (cells_at s.at s.dim m) ≡ s.dim = cells_length s.at s.dim m k.0 in
     let ih : take ((from + s.dim) + total ss) (filled (from + s.dim) m ss (with_window from (cells_at s.at s.dim m) f)) ≡ take
-        (from + s.dim) (with_window from (cells_at s.at s.dim m) f) ++ gathered m ss =
+    (from + s.dim) (with_window from (cells_at s.at s.dim m) f) ++ gathered m ss =
     filled_front (from + s.dim) m ss (with_window from (cells_at s.at s.dim m) f) (omega (arith, window_length from (cells_at s.at s.dim m) f (omega arith))) k.1 in
     let e : from + (s.dim + total ss) ≡ (from + s.dim) + total ss = omega arith in
     let front : take (from + s.dim) (with_window from (cells_at s.at s.dim m) f) ≡ take from f ++ cells_at s.at s.dim m =
     ap (λ n. take (from + n) (with_window from (cells_at s.at s.dim m) f)) (sym lw) ∙ window_front from (cells_at s.at s.dim m) f (omega arith) in
     ap (λ n. take n (filled (from + s.dim) m ss (with_window from (cells_at s.at s.dim m) f))) e ∙ ih ∙ ap (λ x. x ++ gathered m ss) front
-        ∙ append_assoc (take from f) (cells_at s.at s.dim m) (gathered m ss)
+    ∙ append_assoc (take from f) (cells_at s.at s.dim m) (gathered m ss)

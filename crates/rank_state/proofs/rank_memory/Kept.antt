@@ -22,8 +22,8 @@ rows_kept : (r at : ℕ) (w : List ℤ) (ms : List (List ℤ)) → at + length w
     → length (get_or (set ms r (with_window at w (get_or ms r []))) i []) ≡ length (get_or ms i [])
 rows_kept r at w ms h k i = ⊎_elim
     (λ (e : i ≡ r). ap (λ j. length (get_or (set ms r (with_window at w (get_or ms r []))) j [])) e
-        ∙ ap length (get_or-set_same ms r (with_window at w (get_or ms r [])) [] k) ∙ window_length at w (get_or ms r []) h
-        ∙ ap (λ j. length (get_or ms j [])) (sym e))
+    ∙ ap length (get_or-set_same ms r (with_window at w (get_or ms r [])) [] k) ∙ window_length at w (get_or ms r []) h
+    ∙ ap (λ j. length (get_or ms j [])) (sym e))
     (λ (e : i ≡ r → ⊥). ap length (get_or-set_other ms r i (with_window at w (get_or ms r [])) [] e))
     (cases_eq i r)
 

@@ -69,7 +69,7 @@ pub posts_moved : (i j a b : ℕ) (ls : List Letter) (cs ds : List ℤ) → i < 
     → take a ds ≡ take a cs → cells_at a (get_or ls i no_letter).count ds ≡ cells_at (get_or ls i no_letter).at (get_or ls i no_letter).count cs
     → drop (a + (get_or ls i no_letter).count) ds ≡ drop (a + (get_or ls i no_letter).count) cs
     → posts_in (take (suc j) (set ls j (placed a (get_or ls i no_letter)))) ds ++ posts_in
-        (drop (suc i) (set ls j (placed a (get_or ls i no_letter)))) ds ≡ posts_in (take j ls) cs ++ posts_in (drop i ls) cs
+    (drop (suc i) (set ls j (placed a (get_or ls i no_letter)))) ds ≡ posts_in (take j ls) cs ++ posts_in (drop i ls) cs
 posts_moved i j a b ls cs ds h le e front back before middle after =
     let l = get_or ls i no_letter in
     let rest = drop (suc i) ls in
@@ -104,9 +104,9 @@ passed all before kept i n a ls cs e h r w =
     let q = here i ls a (length cs) h w.rest in
     let split = drop-cons ls i no_letter h in
     let fewer : unread_cells (drop i ls) ≡ unread_cells (drop (suc i) ls) = ap unread_cells split
-        ∙ ap (λ b. cond b (unread_cells (drop (suc i) ls)) ((get_or ls i no_letter).count + unread_cells (drop (suc i) ls))) r in
+    ∙ ap (λ b. cond b (unread_cells (drop (suc i) ls)) ((get_or ls i no_letter).count + unread_cells (drop (suc i) ls))) r in
     let same : posts_in (drop i ls) cs ≡ posts_in (drop (suc i) ls) cs = ap (λ ks. posts_in ks cs) split
-        ∙ ap (λ b. cond b (posts_in (drop (suc i) ls) cs) (post_of (get_or ls i no_letter) cs ∷ posts_in (drop (suc i) ls) cs)) r in
+    ∙ ap (λ b. cond b (posts_in (drop (suc i) ls) cs) (post_of (get_or ls i no_letter) cs ∷ posts_in (drop (suc i) ls) cs)) r in
     subst (λ m. Halfway all before kept m a ls cs) (sym e) (record {
       moved = omega (arith, w.moved);
       done = w.done;

@@ -111,7 +111,7 @@ put_queue queues after ls c k o h here others =
     subst (λ m. (i : ℕ) → i < m → IsQueue m ls after c i (get_or (set queues k o) i None)) (sym n)
     (λ i lt. ⊎_elim
     (λ (e : i ≡ k). subst (λ j. IsQueue (length queues) ls after c j (get_or (set queues k o) j None)) (sym e)
-        (subst (IsQueue (length queues) ls after c k) (sym (get_or-set_same queues k o None h)) here))
+    (subst (IsQueue (length queues) ls after c k) (sym (get_or-set_same queues k o None h)) here))
     (λ (d : i ≢ k). subst (IsQueue (length queues) ls after c i) (sym (get_or-set_other queues k i o None d)) (others i lt d))
     (cases_eq i k))
 
@@ -124,7 +124,7 @@ linked_first queues next after ls c w lt nothing f l room e q =
     let k = queue_at (length queues) ls c in
     let alone : get_or after c None ≡ None = ap (λ ps. get_or ps c None) e ∙ get_or-set_same next c None None room in
     let empty : IsQueue (length queues) ls next c (queue_at (length queues) ls c) None =
-        subst (IsQueue (length queues) ls next c (queue_at (length queues) ls c)) nothing (q (queue_at (length queues) ls c) lt) in
+    subst (IsQueue (length queues) ls next c (queue_at (length queues) ls c)) nothing (q (queue_at (length queues) ls c) lt) in
     put_queue queues after ls (suc c) (queue_at (length queues) ls c) (Some w) lt
     (first_link (length queues) c (queue_at (length queues) ls c) ls next after w refl f l alone empty)
     (λ i h d. other_queue (length queues) c i ls next after (λ t. d (sym t))
@@ -136,7 +136,7 @@ pub linked_more : (queues : List (Option Queue)) (next after : List (Option ℕ)
     → Queued queues next ls c → Queued (set queues (queue_at (length queues) ls c) (Some w)) after ls (suc c)
 linked_more queues next after ls c v w lt there f l room e q =
     let old : Links (length queues) ls next c (queue_at (length queues) ls c) v =
-        subst (IsQueue (length queues) ls next c (queue_at (length queues) ls c)) there (q (queue_at (length queues) ls c) lt) in
+    subst (IsQueue (length queues) ls next c (queue_at (length queues) ls c)) there (q (queue_at (length queues) ls c) lt) in
     let before = old.last_in in
     let ne : c ≢ v.last = omega arith in
     let wide : v.last < length (set next c None) = (let s = length-set next c None in omega arith) in
@@ -160,14 +160,14 @@ pub read_alike : (n i c : ℕ) (ls : List Letter) (next : List (Option ℕ)) →
 read_alike n i c ls next h = record {
   queues = λ m b. ⊎_elim
       (λ (e : m ≡ i). ap (queue_at n (set ls i (read_of (get_or ls i no_letter)))) e
-          ∙ ap (λ (l : Letter). l.to % n) (get_or-set_same ls i (read_of (get_or ls i no_letter)) no_letter h) ∙ ap (queue_at n ls) (sym e))
+      ∙ ap (λ (l : Letter). l.to % n) (get_or-set_same ls i (read_of (get_or ls i no_letter)) no_letter h) ∙ ap (queue_at n ls) (sym e))
       (λ (d : m ≢ i). ap (λ (l : Letter). l.to % n) (get_or-set_other ls i m (read_of (get_or ls i no_letter)) no_letter d))
       (cases_eq m i);
   unread = λ m b u. ⊎_elim
       (λ (e : m ≡ i). let r : (get_or (set ls i (read_of (get_or ls i no_letter))) m no_letter).is_read ≡ true =
-          ap (λ j. (get_or (set ls i (read_of (get_or ls i no_letter))) j no_letter).is_read) e
-          ∙ ap (λ (l : Letter). l.is_read) (get_or-set_same ls i (read_of (get_or ls i no_letter)) no_letter h) in
-          absurd (true≢false (sym r ∙ u)))
+      ap (λ j. (get_or (set ls i (read_of (get_or ls i no_letter))) j no_letter).is_read) e
+      ∙ ap (λ (l : Letter). l.is_read) (get_or-set_same ls i (read_of (get_or ls i no_letter)) no_letter h) in
+      absurd (true≢false (sym r ∙ u)))
       (λ (d : m ≢ i). ap (λ (l : Letter). l.is_read) (sym (get_or-set_other ls i m (read_of (get_or ls i no_letter)) no_letter d)) ∙ u)
       (cases_eq m i);
   steps = λ m b. refl;

@@ -105,7 +105,7 @@ shut_panes stride table slots staging free r x s v tied hr hx e =
     let other : (t : ℕ) → t ≢ s → pane_of stride (set slots s v) staging t ≡ pane_of stride slots staging t =
     λ t ne. ap (λ (w : Slot). held_pane w.held w.item (cells_at (t * stride) stride staging)) (get_or-set_other slots s t v no_slot ne) in
     let rest : (r' x' : ℕ) → of_entry (pane_of stride (set slots s v) staging) (entry (with_entry r x None table) r' x') ≡ of_entry
-        (pane_of stride slots staging) (entry (with_entry r x None table) r' x') =
+    (pane_of stride slots staging) (entry (with_entry r x None table) r' x') =
     λ r' x'. same_entry (pane_of stride slots staging) (pane_of stride (set slots s v) staging) (entry (with_entry r x None table) r' x')
     (λ t e'. other t (left_entry stride table slots staging free r x s tied hr hx e r' x' t e')) in
     map_table (of_entry (pane_of stride (set slots s v) staging)) (of_entry (pane_of stride slots staging)) (with_entry r x None table) rest

@@ -76,8 +76,8 @@ haver_at g m (suc n) x k l = ⊎_elim
     let b = length-replicate (times g m n x) n in
     let i : k - length (havers g m n x) < times g m n x = omega (arith, a, b, l, e) in
     let r : get_or (havers g m n x ++ replicate (times g m n x) n) k 0 ≡ n =
-        get_or-append_right (havers g m n x) (replicate (times g m n x) n) (length (havers g m n x)) k 0 refl e
-        ∙ get_or-replicate (times g m n x) (k - length (havers g m n x)) n 0 i in
+    get_or-append_right (havers g m n x) (replicate (times g m n x) n) (length (havers g m n x)) k 0 refl e
+    ∙ get_or-replicate (times g m n x) (k - length (havers g m n x)) n 0 i in
     rw r (omega arith, times_has g m n x (omega (arith, i))))
     (cases_lt k (length (havers g m n x)))
 
@@ -99,14 +99,14 @@ pub counted : (xs initial : List ℕ) (t u x n : ℕ) (p : ℕ → ℕ) → t < 
 counted xs initial t u x n p l e q h lx lt = ⊎_elim
     (λ (s : x ≡ t).
     let c : count_below (n + 1) (λ i. nat_eq (p i) x) ≡ count_below n (λ i. nat_eq (p i) x) + 1 = count_more n (λ i. nat_eq (p i) x)
-        ∙ ap (λ z. count_below n (λ i. nat_eq (p i) x) + cond {A = ℕ} z 1 0) (eq-eqb (p n) x (sym q ∙ (sym e ∙ sym s))) in
+    ∙ ap (λ z. count_below n (λ i. nat_eq (p i) x) + cond {A = ℕ} z 1 0) (eq-eqb (p n) x (sym q ∙ (sym e ∙ sym s))) in
     let a : get_or (set xs t (get_or xs t 0 + 1)) x 0 ≡ get_or xs t 0 + 1 = ap (λ z. get_or (set xs t (get_or xs t 0 + 1)) z 0) s ∙ get_or-set_same xs t (get_or xs t 0 + 1) 0 l in
     let b : get_or xs t 0 ≡ get_or xs x 0 = ap (λ z. get_or xs z 0) (sym s) in
     let i = h x lx in
     omega (arith, a, b, c, i))
     (λ (s : x ≡ t → ⊥).
     let c : count_below (n + 1) (λ i. nat_eq (p i) x) ≡ count_below n (λ i. nat_eq (p i) x) + 0 = count_more n (λ i. nat_eq (p i) x)
-        ∙ ap (λ z. count_below n (λ i. nat_eq (p i) x) + cond {A = ℕ} z 1 0) (ne_eqb (p n) x (λ w. s (sym (e ∙ (q ∙ w))))) in
+    ∙ ap (λ z. count_below n (λ i. nat_eq (p i) x) + cond {A = ℕ} z 1 0) (ne_eqb (p n) x (λ w. s (sym (e ∙ (q ∙ w))))) in
     let a = get_or-set_other xs t x (get_or xs t 0 + 1) 0 s in
     let i = h x lx in
     omega (arith, a, c, i))
@@ -123,17 +123,17 @@ pub rowed : (rows initial : List (List ℕ)) (t u v x n : ℕ) (p : ℕ → ℕ)
 rowed rows initial t u v x n p l e q h lx = ⊎_elim
     (λ (s : x ≡ t).
     let c : count_below (n + 1) (λ i. nat_eq (p i) x) ≡ count_below n (λ i. nat_eq (p i) x) + 1 = count_more n (λ i. nat_eq (p i) x)
-        ∙ ap (λ z. count_below n (λ i. nat_eq (p i) x) + cond {A = ℕ} z 1 0) (eq-eqb (p n) x (sym q ∙ (sym e ∙ sym s))) in
+    ∙ ap (λ z. count_below n (λ i. nat_eq (p i) x) + cond {A = ℕ} z 1 0) (eq-eqb (p n) x (sym q ∙ (sym e ∙ sym s))) in
     let a : get_or (set rows t (get_or rows t [] ++ v ∷ [])) x [] ≡ get_or rows t [] ++ v ∷ [] =
-        ap (λ z. get_or (set rows t (get_or rows t [] ++ v ∷ [])) z []) s ∙ get_or-set_same rows t (get_or rows t [] ++ v ∷ []) [] l in
+    ap (λ z. get_or (set rows t (get_or rows t [] ++ v ∷ [])) z []) s ∙ get_or-set_same rows t (get_or rows t [] ++ v ∷ []) [] l in
     let b : get_or rows t [] ≡ get_or initial x [] ++ replicate (count_below n (λ i. nat_eq (p i) x)) v = ap (λ z. get_or rows z []) (sym s) ∙ h x lx in
     a ∙ (ap (λ (z : List ℕ). z ++ v ∷ []) b ∙
-        (append_assoc (get_or initial x []) (replicate (count_below n (λ i. nat_eq (p i) x)) v) (v ∷ [])
-        ∙ (ap (λ (z : List ℕ). get_or initial x [] ++ z) (replicate_more (count_below n (λ i. nat_eq (p i) x)) v)
-        ∙ ap (λ z. get_or initial x [] ++ replicate z v) (sym c)))))
+    (append_assoc (get_or initial x []) (replicate (count_below n (λ i. nat_eq (p i) x)) v) (v ∷ [])
+    ∙ (ap (λ (z : List ℕ). get_or initial x [] ++ z) (replicate_more (count_below n (λ i. nat_eq (p i) x)) v)
+    ∙ ap (λ z. get_or initial x [] ++ replicate z v) (sym c)))))
     (λ (s : x ≡ t → ⊥).
     let c : count_below (n + 1) (λ i. nat_eq (p i) x) ≡ count_below n (λ i. nat_eq (p i) x) = count_more n (λ i. nat_eq (p i) x)
-        ∙ (ap (λ z. count_below n (λ i. nat_eq (p i) x) + cond {A = ℕ} z 1 0) (ne_eqb (p n) x (λ w. s (sym (e ∙ (q ∙ w))))) ∙ omega arith)
-        in
+    ∙ (ap (λ z. count_below n (λ i. nat_eq (p i) x) + cond {A = ℕ} z 1 0) (ne_eqb (p n) x (λ w. s (sym (e ∙ (q ∙ w))))) ∙ omega arith)
+    in
     get_or-set_other rows t x (get_or rows t [] ++ v ∷ []) [] s ∙ (h x lx ∙ ap (λ z. get_or initial x [] ++ replicate z v) (sym c)))
     (cases_eq x t)

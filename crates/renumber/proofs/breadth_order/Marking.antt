@@ -131,7 +131,7 @@ near_by g m x y having e = ap (λ z. z && not (nat_eq x y))
     let r : get_or having w.0 0 ≡ get_or (havers g m (set_size g (map_from g m)) x) w.0 0 = ap (λ (z : List ℕ). get_or z w.0 0) e in
     any_from (set_size g (map_from g m)) (λ e. has_target g m e y && has_target g m e x) (get_or (havers g m (set_size g (map_from g m)) x) w.0 0) h.0
     (and_from (has_target g m (get_or (havers g m (set_size g (map_from g m)) x) w.0 0) y)
-        (has_target g m (get_or (havers g m (set_size g (map_from g m)) x) w.0 0) x) (subst (λ z. has_target g m z y ≡ true) r w.2) h.1))
+    (has_target g m (get_or (havers g m (set_size g (map_from g m)) x) w.0 0) x) (subst (λ z. has_target g m z y ≡ true) r w.2) h.1))
     (λ t.
     let w = any_witness (set_size g (map_from g m)) (λ e. has_target g m e y && has_target g m e x) t in
     let b = and_parts (has_target g m w.0 y) (has_target g m w.0 x) w.2 in

@@ -92,7 +92,7 @@ module _ (n : ℕ) (near : ℕ → ℕ → Bool) where
         count = (
             let v : cond {A = ℕ} (not (get_or seen z false)) 1 0 ≡ 1 = ap (λ b. cond {A = ℕ} (not b) 1 0) f in
             let s : count_by (λ b. not b) (set seen z true) + cond {A = ℕ} (not (get_or seen z false)) 1 0 ≡ count_by (λ b. not b) seen +
-                0 = sum_by-set (λ b. cond {A = ℕ} (not b) 1 0) seen z true false lseen in
+            0 = sum_by-set (λ b. cond {A = ℕ} (not b) 1 0) seen z true false lseen in
             omega (arith, w.count));
         within = λ k l. ⊎_elim
             (λ (e : k ≡ length order). rw (get_or_push order z 0 k (sym e)) lz)

@@ -15,8 +15,8 @@ set_order-requires-clause-order c =
     let n : ℕ = set_size g (map_to g c.args.map) in
     let e = c.deref-in-loop-set.ensures.value ∙ (c.in_ok-order.ensures ∙ ap (reverse {A = ℕ}) c.deref.ensures.value) in
     subst (λ (z : List ℕ). IsNumbering n z) (sym e)
-        (reversed_numbering n (are_neighbours g c.args.map) (degree_order g c.args.map) c.in_ok-taken.taken.items
-        c.in_ok-taken.ensures.length c.in_ok-taken.ensures.all c.in_ok-taken.ensures.taken)
+    (reversed_numbering n (are_neighbours g c.args.map) (degree_order g c.args.map) c.in_ok-taken.taken.items
+    c.in_ok-taken.ensures.length c.in_ok-taken.ensures.all c.in_ok-taken.ensures.taken)
 
 pub loop-set-preserved : goal.loop-set-preserved
 loop-set-preserved c =

@@ -102,7 +102,7 @@ parts_push starts ends items k e v h l q room =
     ∙ (ap (λ z. take (z - get_or starts j 0) (drop (get_or starts j 0) items) ++ v ∷ []) (sym o)
     ∙ (ap (λ (z : List ℕ). z ++ v ∷ []) (sym was ∙ ap (λ z. get_or (parts starts ends items) z []) s)
     ∙ sym (ap (λ z. get_or (set (parts starts ends items) k (get_or (parts starts ends items) k [] ++ v ∷ [])) z []) s
-        ∙ get_or-set_same (parts starts ends items) k (get_or (parts starts ends items) k [] ++ v ∷ []) [] (omega (arith, old, l))))))))
+    ∙ get_or-set_same (parts starts ends items) k (get_or (parts starts ends items) k [] ++ v ∷ []) [] (omega (arith, old, l))))))))
     (λ (s : j ≡ k → ⊥).
     let b : get_or (set ends k (e + 1)) j 0 ≡ get_or ends j 0 = get_or-set_other ends k j (e + 1) 0 s in
     let apart : (get_or ends j 0 ≤ e) ⊎ (e < get_or starts j 0) = ⊎_elim

@@ -109,7 +109,7 @@ module _ (indep : Independence) (reads : ReadsStay) (ops : (r : Reduction) → I
 
     finished : (consts : List ℤ) (l' m' : kernel.Store) (t u : Store) → kernel.Finished l' ≡ kernel_meaning ts consts k l → kernel.Finished m' ≡ kernel_meaning us consts k m
         → law.SameChanges modes ts us l m l' m' → EndsAs entry dim width arg n e modes cell_of ts s (kernel.Finished l') (Finished t)
-            → EndsAs entry dim width arg n e modes cell_of us w (kernel.Finished m') (Finished u)
+        → EndsAs entry dim width arg n e modes cell_of us w (kernel.Finished m') (Finished u)
         → SameRuns entry dim width arg n e {F = KernelFault} s w (Finished t) (Finished u)
     finished consts l' m' t u ran_s ran_w same ends_s ends_w =
         record {
@@ -173,8 +173,8 @@ independent indep reads ops entry dim width arg n e modes cell_of k is_constant 
     let same : h.consts w ≡ h.consts s = sym (h.constants s w constant) in
     let ends_w = subst (λ cs. EndsAs entry dim width arg n e modes cell_of us w (kernel_meaning us cs k m) (run w)) same (h.ends w) in
     let both = indep k modes (h.consts s) ts us l m (h.resolved s) obeys
-        (suits indep reads ops entry dim width arg n e modes cell_of k is_constant run h obeys s ts l held_s in_s)
-        (suits indep reads ops entry dim width arg n e modes cell_of k is_constant run h obeys w us m held_w in_w)
+    (suits indep reads ops entry dim width arg n e modes cell_of k is_constant run h obeys s ts l held_s in_s)
+    (suits indep reads ops entry dim width arg n e modes cell_of k is_constant run h obeys w us m held_w in_w)
     (aliases indep reads ops entry dim width arg n e modes cell_of k is_constant run h obeys s w in_s in_w ts us l m held_s held_w)
     (inputs indep reads ops entry dim width arg n e modes cell_of k is_constant run h obeys s w in_s in_w ts us l m held_s held_w agree) in
     ended indep reads ops entry dim width arg n e modes cell_of k is_constant run h obeys s w in_s in_w ts us l m held_s held_w (h.consts s)

@@ -82,8 +82,8 @@ module _ (entry : Entries) (dim width : ℕ → ℕ) (arg : ℕ → Argument) (n
       (λ t. and_from (nat_eq (target_at ts a).array (target_at ts b).array) (nat_eq ((target_at ts a).from + i) ((target_at ts b).from + j))
           (eq-eqb (target_at ts a).array (target_at ts b).array (on.arrays a i lt ∙ sym (on.arrays b j mt)))
           (eq-eqb ((target_at ts a).from + i) ((target_at ts b).from + j)
-              (on.once ((target_at ts a).from + i) ((target_at ts b).from + j) (on.inside a i lt) (on.inside b j mt)
-              (on.are a i lt ∙ t ∙ sym (on.are b j mt))))),
+          (on.once ((target_at ts a).from + i) ((target_at ts b).from + j) (on.inside a i lt) (on.inside b j mt)
+          (on.are a i lt ∙ t ∙ sym (on.are b j mt))))),
     );
     values = λ a i lt. first_array windows a i lt ∙ map_at s cells ((target_at ts a).from + i) (on.inside a i lt) ∙ ap s (on.are a i lt);
   }

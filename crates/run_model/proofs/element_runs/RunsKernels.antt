@@ -31,7 +31,7 @@ have_kernels range reads independent p f r = record {
   host_in_range = r.host_in_range;
   independent = λ k e fr lt. subst (Independent (p.program.run k e)) (λ i c. sym (r.touches k e c fr lt) i)
       (independent f.entry f.dim f.width (f.arg (p.program.site k)) (f.args (p.program.site k)) e (r.modes (p.program.site k))
-          (r.cell_of k e) (r.kernel (p.program.site k)) r.is_constant (p.program.run k e)
+      (r.cell_of k e) (r.kernel (p.program.site k)) r.is_constant (p.program.run k e)
       (r.runs k e (ap is_loop fr) lt) (r.obeys k (ap is_loop fr)) (r.read_constants k e fr lt));
   stays = λ k e s t c od lt ran un.
       reads f.entry f.dim f.width (f.arg (p.program.site k)) (f.args (p.program.site k)) e (r.modes (p.program.site k)) (r.cell_of k e) (r.kernel (p.program.site k)) r.is_constant (p.program.run k e)

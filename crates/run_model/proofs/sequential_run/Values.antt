@@ -36,7 +36,7 @@ module _ (s : Store) where
       let first : take w l ≡ map (λ i. s (Data (record { dat = d; element = x; component = i }))) (numbers w) =
       listed (λ i. s (Data (record { dat = d; element = x; component = i }))) (take w l) w (omega (arith, length-take w l, enough))
       (λ i lt. get_or-take w l i (pos 0) lt ∙ ap (λ k. get_or l k (pos 0)) (omega arith) ∙ are 0 i (omega arith) lt
-          ∙ ap (λ k. s (Data (record { dat = d; element = k; component = i }))) (omega arith)) in
+      ∙ ap (λ k. s (Data (record { dat = d; element = k; component = i }))) (omega arith)) in
       let later = rows d w n (x + 1) (drop w l) (omega (arith, length-drop w l, long))
       (λ y i ly li. get_or-drop w l (y * w + i) (pos 0) ∙ ap (λ k. get_or l k (pos 0)) (omega arith) ∙ are (suc y) i (omega (arith, ly)) li
       ∙ ap (λ k. s (Data (record { dat = d; element = k; component = i }))) (omega arith)) in

@@ -1,5 +1,5 @@
 -- The runs of a loop that an item runs.
-use Rattle.std.proofs.Common.{◌≡◌, ◌+◌, ◌⊎◌, inr, ◌++◌, ℕ, zero, suc, ◌<◌, Bool, true, false, cond, refl, sym, ap, subst, ◌∙◌, arith, ⊎_elim, List, [], ◌∷◌, length, get_or, set, map, None, Some, nat_eq, Vec}
+use Rattle.std.proofs.Common.{◌≡◌, ◌+◌, ◌⊎◌, inr, ℕ, zero, suc, ◌<◌, Bool, true, false, cond, refl, sym, ap, subst, ◌∙◌, arith, ⊎_elim, List, [], ◌∷◌, length, get_or, set, map, None, Some, nat_eq, Vec}
 use Rattle.std.specs.Prelude.{◌||◌, ◌&&◌, nat_lt, slice_index, unwrap_or}
 use Rattle.std.specs.Map.{lookup}
 use Rattle.std.specs.Option.{option_map}
@@ -164,7 +164,6 @@ slot_other : (runs : List (Vec (List (List ℕ)) Global)) (slot k : ℕ) (new : 
 slot_other runs slot k new ne = ap (λ z. get_or z k []) (map-set items runs slot new) ∙ get_or-set_other (map items runs) slot k new.items [] ne
 
 module _ (ranks block g : ℕ) (v : SharedValue) (n : ℕ) where
-
   -- the runs of its slot are put there
   pub runs_put : (runs : List (Vec (List (List ℕ)) Global)) (slot : ℕ) (new : Vec (List (List ℕ)) Global) → slot < length runs
       → Some slot ≡ lookup (nat_eq n) v.slots

@@ -5,9 +5,9 @@ ghost use Rattle.loop_plan.specs.declared.types.Pair.{Pair as PairValue};
 ghost use Rattle.loop_plan.specs.ItemPlans.{plan_in};
 ghost use Rattle.schedule_check.specs.Messages.{receivers_in, senders_in, receiver_lists, sender_lists, HasMessages};
 
+use local_mesh::rank_sets::empty_lists;
 use loop_plan::{ItemPlan, Pair};
 use op_num::OutOfMemory;
-use local_mesh::rank_sets::empty_lists;
 use std::alloc::Global;
 
 /// The messages of an item: by rank the ranks that it sends to, and by rank those that it receives from, both

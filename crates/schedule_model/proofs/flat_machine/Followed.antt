@@ -101,7 +101,7 @@ module _ {F : Type 0} (p : Setup F) (l : Layout F) where
   mail_step : (t : Step) (f : Flat F) (s r : ℕ) → queue_of (flat_step p l t f) s r ≡ queue_step s r t (queue_of f s r)
   mail_step (Send k a b) f s r = put_queue a b s r f (f.mail a b ++ (record { about = k; values = map (packed p l f a) (l.exports k a b) } ∷ [])) (queue_of f s r ++ (k ∷ []))
       (λ i j. pushed (f.mail a b) (record { about = k; values = map (packed p l f a) (l.exports k a b) })
-          ∙ ap (λ z. map (λ (y : Post). y.about) z ++ (k ∷ [])) (ap (λ z. f.mail z b) i ∙ ap (f.mail s) j))
+      ∙ ap (λ z. map (λ (y : Post). y.about) z ++ (k ∷ [])) (ap (λ z. f.mail z b) i ∙ ap (f.mail s) j))
   mail_step (Recv k b a) f s r = taken k b a s r f (f.mail a b) refl
   mail_step (Begin k b x) f s r = ap (λ m. map (λ (y : Post). y.about) (m s r))
       (mail_opened k b x (l.core k (l.original k b x) (map (variable p l f) l.constants)
@@ -115,8 +115,8 @@ module _ {F : Type 0} (p : Setup F) (l : Layout F) where
     where
       by_test : ((flat_from p l steps (flat_step p l t f)).stop ≡ None → queue_of (flat_from p l steps (flat_step p l t f)) s r ≡ queue_after s r (queue_of (flat_step p l t f) s r) steps)
           → (b : Bool) → is_some f.stop ≡ b → (cond b f (flat_from p l steps (flat_step p l t f))).stop ≡ None
-              → queue_of (cond b f (flat_from p l steps (flat_step p l t f))) s r ≡ queue_after s r (queue_step s r t (queue_of f s r))
-              steps
+          → queue_of (cond b f (flat_from p l steps (flat_step p l t f))) s r ≡ queue_after s r (queue_step s r t (queue_of f s r))
+          steps
       by_test more true i n = absurd (false≢true (sym (ap is_some n) ∙ i))
       by_test more false i n = more n ∙ ap (λ q. queue_after s r q steps) (mail_step t f s r)
 

@@ -114,20 +114,20 @@ module _ {F : Type 0} (p : Setup F) (own : Owners p) (l : Layout F) (q : IsLayou
       (looped p k (one_more p.program k n r) a)
   more_same k n a lp lt none f (Broke e x t) h =
       subst (λ z. Same p l z (looped p k (Broke e x t) a))
-          (sym (cond-true (is_some f.stop) f
-          (element_flat p l k n (l.core k n (map (variable p l f) l.constants) (map (owned p l f) (l.cells k n))) f) (ap is_some h.stop))) h
+      (sym (cond-true (is_some f.stop) f
+      (element_flat p l k n (l.core k n (map (variable p l f) l.constants) (map (owned p l f) (l.cells k n))) f) (ap is_some h.stop))) h
   more_same k n a lp lt none f (Ran_through t) h =
       subst (λ z. Same p l z (looped p k (one_more p.program k n (Ran_through t)) a))
-          (sym (cond-false (is_some f.stop) f
-          (element_flat p l k n (l.core k n (map (variable p l f) l.constants) (map (owned p l f) (l.cells k n))) f)
-          (ap is_some (h.stop ∙ none))))
+      (sym (cond-false (is_some f.stop) f
+      (element_flat p l k n (l.core k n (map (variable p l f) l.constants) (map (owned p l f) (l.cells k n))) f)
+      (ap is_some (h.stop ∙ none))))
       (subst (λ z. Same p l (element_flat p l k n (l.core k n (map (variable p l f) l.constants) (map (owned p l f) (l.cells k n))) f) (looped p k (after_run n t z) a)) (sym (q.run_is k n t lp lt))
       (subst (λ z. Same p l (element_flat p l k n (l.core k n (map (variable p l f) l.constants) (map (owned p l f) (l.cells k n))) f)
-          (looped p k (after_run n t (of_core (l.cells k n) t (l.core k n (map (λ v. t (Variable v)) l.constants) z))) a))
-          (gather_same k n f a t lp lt h)
+      (looped p k (after_run n t (of_core (l.cells k n) t (l.core k n (map (λ v. t (Variable v)) l.constants) z))) a))
+      (gather_same k n f a t lp lt h)
       (subst (λ z. Same p l (element_flat p l k n (l.core k n (map (variable p l f) l.constants) (map (owned p l f) (l.cells k n))) f)
-          (looped p k (after_run n t (of_core (l.cells k n) t (l.core k n z (map (owned p l f) (l.cells k n))))) a))
-          (constants_same f a t h l.constants q.constants_are)
+      (looped p k (after_run n t (of_core (l.cells k n) t (l.core k n z (map (owned p l f) (l.cells k n))))) a))
+      (constants_same f a t h l.constants q.constants_are)
       (element_same k n f a t h (l.core k n (map (variable p l f) l.constants) (map (owned p l f) (l.cells k n)))))))
 
   loop_same : (k n : ℕ) (f : Flat F) (a : State F) → is_loop (p.program.kind k) ≡ true → n ≤ elements p.program k → a.stop ≡ None

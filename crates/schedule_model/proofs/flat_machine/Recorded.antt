@@ -43,7 +43,7 @@ module _ {F : Type 0} (p : Setup F) (l : Layout F) where
       let g : Flat F = loop_flat p l k n f in
       let o : Of g = of_loop k n f h in
       cond_both (is_some g.stop) g (element_flat p l k n (l.core k n (map (variable p l g) l.constants) (map (owned p l g) (l.cells k n)))
-          g) Of (λ t. o) (λ t. of_element k n (l.core k n (map (variable p l g) l.constants) (map (owned p l g) (l.cells k n))) g o)
+      g) Of (λ t. o) (λ t. of_element k n (l.core k n (map (variable p l g) l.constants) (map (owned p l g) (l.cells k n))) g o)
 
   of_hosted : (k : ℕ) (b : Hosted F) (f : Flat F) → Of f → Of (host_flat p l k b f)
   of_hosted k (Halts n) f h = h

@@ -69,7 +69,7 @@ pub changed : {F : Type 0} (p : Setup F) (l : Layout F) (memories : List (List �
 changed p l memories mem r g new h lt same =
     let here : get_or (change p l r g memories) r [] ≡ updated (λ i v. g (l.cell_at r i) v) 0 (get_or memories r []) =
     (let fits : r < length memories = (let w : length memories ≡ p.ranks = h.wide in omega arith) in
-        get_or-set_same memories r (updated (λ i v. g (l.cell_at r i) v) 0 (get_or memories r [])) [] fits) in
+    get_or-set_same memories r (updated (λ i v. g (l.cell_at r i) v) 0 (get_or memories r [])) [] fits) in
     record {
       wide = length-set memories r (updated (λ i v. g (l.cell_at r i) v) 0 (get_or memories r [])) ∙ h.wide;
       widths = λ x xl. ⊎_elim

@@ -107,16 +107,16 @@ module _ {F : Type 0} (p : Setup F) (l : Layout F) (q : IsLayout p l) (f : Flat 
   -- one frame changes alike
   panes_put : (k r x : ℕ) (b : Pane) (c : Frame) → p.program.kind k ≡ Free → r < p.ranks → x < l.count k r → PaneSame l k (l.original k r x) b c
       → (k1 r1 x1 : ℕ) → p.program.kind k1 ≡ Free → r1 < p.ranks → x1 < l.count k1 r1
-          → PaneSame l k1 (l.original k1 r1 x1) (put3 k r x b f.panes k1 r1 x1)
-          (put3 k r (l.original k r x) c a.frames k1 r1 (l.original k1 r1 x1))
+      → PaneSame l k1 (l.original k1 r1 x1) (put3 k r x b f.panes k1 r1 x1)
+      (put3 k r (l.original k r x) c a.frames k1 r1 (l.original k1 r1 x1))
   panes_put k r x b c fr lr lt new k1 r1 x1 fr1 lr1 lt1 = ⊎_elim
       (λ (y : same3 k1 r1 x1 k r x ≡ true).
       let e : (k1 ≡ k) × (r1 ≡ r) × (x1 ≡ x) = same3_true k1 r1 x1 k r x y in
       let o : l.original k1 r1 x1 ≡ l.original k r x = ap (λ z. l.original z r1 x1) e.0 ∙ (ap (λ z. l.original k z x1) e.1 ∙ ap (l.original k r) e.2) in
       let both : same3 k1 r1 (l.original k1 r1 x1) k r (l.original k r x) ≡ true =
-          and_from (k1 == k) ((r1 == r) && (l.original k1 r1 x1 == l.original k r x)) (eq-eqb k1 k e.0)
-          (and_from (r1 == r) (l.original k1 r1 x1 == l.original k r x) (eq-eqb r1 r e.1)
-          (eq-eqb (l.original k1 r1 x1) (l.original k r x) o)) in
+      and_from (k1 == k) ((r1 == r) && (l.original k1 r1 x1 == l.original k r x)) (eq-eqb k1 k e.0)
+      (and_from (r1 == r) (l.original k1 r1 x1 == l.original k r x) (eq-eqb r1 r e.1)
+      (eq-eqb (l.original k1 r1 x1) (l.original k r x) o)) in
       subst (λ z. PaneSame l k1 (l.original k1 r1 x1) z (put3 k r (l.original k r x) c a.frames k1 r1 (l.original k1 r1 x1))) (sym (cond-true (same3 k1 r1 x1 k r x) b (f.panes k1 r1 x1) y))
       (subst (λ z. PaneSame l k1 (l.original k1 r1 x1) b z) (sym (cond-true (same3 k1 r1 (l.original k1 r1 x1) k r (l.original k r x)) c (a.frames k1 r1 (l.original k1 r1 x1)) both))
       (subst (λ z. PaneSame l z (l.original k1 r1 x1) b c) (sym e.0) (subst (λ z. PaneSame l k z b c) (sym o) new))))
@@ -124,13 +124,13 @@ module _ {F : Type 0} (p : Setup F) (l : Layout F) (q : IsLayout p l) (f : Flat 
       let neither : same3 k1 r1 (l.original k1 r1 x1) k r (l.original k r x) ≡ false = false_from_ne_true (same3 k1 r1 (l.original k1 r1 x1) k r (l.original k r x)) (λ t.
       let e : (k1 ≡ k) × (r1 ≡ r) × (l.original k1 r1 x1 ≡ l.original k r x) = same3_true k1 r1 (l.original k1 r1 x1) k r (l.original k r x) t in
       let i : x1 ≡ x = sym (q.outside k1 r1 x1 fr1 lr1 lt1).2
-          ∙ (ap (λ z. l.local z r1 (l.original k1 r1 x1)) e.0
-          ∙ (ap (λ z. l.local k z (l.original k1 r1 x1)) e.1 ∙ (ap (l.local k r) e.2 ∙ (q.outside k r x fr lr lt).2))) in
+      ∙ (ap (λ z. l.local z r1 (l.original k1 r1 x1)) e.0
+      ∙ (ap (λ z. l.local k z (l.original k1 r1 x1)) e.1 ∙ (ap (l.local k r) e.2 ∙ (q.outside k r x fr lr lt).2))) in
       false≢true (sym y ∙ and_from (k1 == k) ((r1 == r) && (x1 == x)) (eq-eqb k1 k e.0) (and_from (r1 == r) (x1 == x) (eq-eqb r1 r e.1) (eq-eqb x1 x i)))) in
       subst (λ z. PaneSame l k1 (l.original k1 r1 x1) z (put3 k r (l.original k r x) c a.frames k1 r1 (l.original k1 r1 x1))) (sym (cond-false (same3 k1 r1 x1 k r x) b (f.panes k1 r1 x1) y))
       (subst (λ z. PaneSame l k1 (l.original k1 r1 x1) (f.panes k1 r1 x1) z)
-          (sym (cond-false (same3 k1 r1 (l.original k1 r1 x1) k r (l.original k r x)) c (a.frames k1 r1 (l.original k1 r1 x1)) neither))
-          (h.panes k1 r1 x1 fr1 lr1 lt1)))
+      (sym (cond-false (same3 k1 r1 (l.original k1 r1 x1) k r (l.original k r x)) c (a.frames k1 r1 (l.original k1 r1 x1)) neither))
+      (h.panes k1 r1 x1 fr1 lr1 lt1)))
       (cases_Bool (same3 k1 r1 x1 k r x))
 
   opened_same : (k r x : ℕ) → p.program.kind k ≡ Free → r < p.ranks → x < l.count k r → (b : Core F)
@@ -169,16 +169,16 @@ module _ {F : Type 0} (p : Setup F) (l : Layout F) (q : IsLayout p l) (f : Flat 
       let o : (l.original k r x < elements p.program k) × (executes p k r (l.original k r x) ≡ true) × (l.local k r (l.original k r x) ≡ x) = q.outside k r x fr lr lt in
       subst (λ z. Same p l (flat_step p l (Begin k r x) f) (opened k r (l.original k r x) z a)) (sym (q.run_is k (l.original k r x) (view p k r a) (loop_kind k fr) o.0))
       (subst (λ z. Same p l (flat_step p l (Begin k r x) f)
-          (opened k r (l.original k r x) (of_core (l.cells k (l.original k r x)) (view p k r a)
-          (l.core k (l.original k r x) (map (λ v. view p k r a (Variable v)) l.constants) z)) a))
-          (windows k r (l.original k r x) fr lr o.0 o.1)
+      (opened k r (l.original k r x) (of_core (l.cells k (l.original k r x)) (view p k r a)
+      (l.core k (l.original k r x) (map (λ v. view p k r a (Variable v)) l.constants) z)) a))
+      (windows k r (l.original k r x) fr lr o.0 o.1)
       (subst (λ z. Same p l (flat_step p l (Begin k r x) f)
-          (opened k r (l.original k r x) (of_core (l.cells k (l.original k r x)) (view p k r a)
-          (l.core k (l.original k r x) z (map (window p l f k r) (l.cells k (l.original k r x))))) a))
-          (constants_view k r fr l.constants q.constants_are)
+      (opened k r (l.original k r x) (of_core (l.cells k (l.original k r x)) (view p k r a)
+      (l.core k (l.original k r x) z (map (window p l f k r) (l.cells k (l.original k r x))))) a))
+      (constants_view k r fr l.constants q.constants_are)
       (opened_same k r x fr lr lt (l.core k (l.original k r x) (map (variable p l f) l.constants) (map (window p l f k r) (l.cells k (l.original k r x))))
       (λ ws i. q.same_length k (l.original k r x) (map (variable p l f) l.constants) (map (window p l f k r) (l.cells k (l.original k r x)))
-          ws (loop_kind k fr) o.0 (map_length (window p l f k r) (l.cells k (l.original k r x))) i))))
+      ws (loop_kind k fr) o.0 (map_length (window p l f k r) (l.cells k (l.original k r x))) i))))
 
   -- ---- end
   shut_same : (k r x : ℕ) → p.program.kind k ≡ Free → r < p.ranks → x < l.count k r
@@ -245,11 +245,11 @@ module _ {F : Type 0} (p : Setup F) (l : Layout F) (q : IsLayout p l) (f : Flat 
       partials = λ r1 s1 v. ⊎_elim
           (λ (y : ((r1 == r) && (s1 == p.program.site k)) ≡ true).
           ap (λ z. z v) (cond-true ((r1 == r) && (s1 == p.program.site k)) part_flat (f.partials r1 s1) y)
-              ∙ (part_is v ∙ ap (λ z. z v) (sym (cond-true ((r1 == r) && (s1 == p.program.site k)) part_cells (a.partials r1 s1) y))))
+          ∙ (part_is v ∙ ap (λ z. z v) (sym (cond-true ((r1 == r) && (s1 == p.program.site k)) part_cells (a.partials r1 s1) y))))
           (λ (y : ((r1 == r) && (s1 == p.program.site k)) ≡ false).
           ap (λ z. z v) (cond-false ((r1 == r) && (s1 == p.program.site k)) part_flat (f.partials r1 s1) y)
-              ∙ (h.partials r1 s1 v ∙ ap (λ z. z v)
-              (sym (cond-false ((r1 == r) && (s1 == p.program.site k)) part_cells (a.partials r1 s1) y))))
+          ∙ (h.partials r1 s1 v ∙ ap (λ z. z v)
+          (sym (cond-false ((r1 == r) && (s1 == p.program.site k)) part_cells (a.partials r1 s1) y))))
           (cases_Bool ((r1 == r) && (s1 == p.program.site k)));
       mail = h.mail;
       panes = panes_put k r x Shut_pane Shut fr lr lt tt;

@@ -84,5 +84,5 @@ module _ {F : Type 0} (p : Setup F) (w : Lawful p) (l : Layout F) (q : IsLayout 
 
 pub on_buffers : {F : Type 0} → ((p : Setup F) → Lawful p → Coloured p → (l : List Step) → Accepted (outline p) l → Agrees p (sequential p.program) (machine p l))
     → (p : Setup F) → Lawful p → Coloured p → (l : Layout F) → IsLayout p l → (f : Flat F) → StartsFlat p l f → (steps : List Step)
-        → Accepted (by_place p l) steps → AgreesFlat p l (sequential p.program) (flat_from p l steps f)
+    → Accepted (by_place p l) steps → AgreesFlat p l (sequential p.program) (flat_from p l steps f)
 on_buffers cells p w free l q f start steps acc = from_cells p w l q f start steps acc (cells p w free (map (to_element l) steps) (accepted_elements p l q steps acc))

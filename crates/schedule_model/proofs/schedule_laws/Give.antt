@@ -155,12 +155,12 @@ module _ {F : Type 0} (p : Setup F) (f : LoopParts p) where
           let sc : p.scatters k ≡ true = f.scatters_is k r.by c.dat m j o.0 fr r.one_of (i ∙ ap (Indirect c.dat m j) o.1) in
           subst (λ z. executes p k z e ≡ true) (sym there) (⊎_elim
           (λ (own : p.owner (p.program.set k) e ≡ p.owner (p.program.set_of c.dat) c.element). or_left
-              (p.owner (p.program.set k) e == p.owner (p.program.set_of c.dat) c.element)
-              (p.scatters k && p.import_execute (p.owner (p.program.set_of c.dat) c.element) (p.program.set k) e)
-              (eq-eqb (p.owner (p.program.set k) e) (p.owner (p.program.set_of c.dat) c.element) own))
+          (p.owner (p.program.set k) e == p.owner (p.program.set_of c.dat) c.element)
+          (p.scatters k && p.import_execute (p.owner (p.program.set_of c.dat) c.element) (p.program.set k) e)
+          (eq-eqb (p.owner (p.program.set k) e) (p.owner (p.program.set_of c.dat) c.element) own))
           (λ (ne : p.owner (p.program.set k) e ≡ p.owner (p.program.set_of c.dat) c.element → ⊥). or_right
-              (p.owner (p.program.set k) e == p.owner (p.program.set_of c.dat) c.element)
-              (p.scatters k && p.import_execute (p.owner (p.program.set_of c.dat) c.element) (p.program.set k) e)
+          (p.owner (p.program.set k) e == p.owner (p.program.set_of c.dat) c.element)
+          (p.scatters k && p.import_execute (p.owner (p.program.set_of c.dat) c.element) (p.program.set k) e)
           (and_from (p.scatters k) (p.import_execute (p.owner (p.program.set_of c.dat) c.element) (p.program.set k) e) sc
           (f.execute_if (p.owner (p.program.set_of c.dat) c.element) (p.program.set k) e m j lr lt ne lm from lj (sym (target_owner c m e j to g)))))
           (cases_eq (p.owner (p.program.set k) e) (p.owner (p.program.set_of c.dat) c.element)))
@@ -239,8 +239,8 @@ module _ {F : Type 0} (p : Setup F) (f : LoopParts p) where
                 (λ t. inl t)
                 (λ t. inr (f.nonexecute_if r m e j lr lm lj (subst (λ z. e < p.program.size z) (sym from) lt)
                 (⊎_elim (λ own. inl (ap (λ z. p.owner z e) from ∙ own))
-                    (λ (u : (p.scatters k ≡ true) × (p.import_execute r (p.program.set k) e ≡ true)). inr
-                    (ap (λ z. p.import_execute r z e) from ∙ u.1)) (executed k r e ex)) away t))
+                (λ (u : (p.scatters k ≡ true) × (p.import_execute r (p.program.set k) e ≡ true)). inr
+                (ap (λ z. p.import_execute r z e) from ∙ u.1)) (executed k r e ex)) away t))
                 (cases_Bool (p.import_execute r (f.to_set m) (f.entry m e j)))))),
             f.needs_indirect k a.by c.dat m j fr a.one_of reads,
             false_from_ne_true (p.core r (p.program.set k) e) (λ co. other (core_owns k r e c a.by lr lt co (indirect m j x i lm from to lj g))),
@@ -250,24 +250,25 @@ module _ {F : Type 0} (p : Setup F) (f : LoopParts p) where
       × ((p.import_execute r (p.program.set_of c.dat) c.element ≡ true) ⊎ (p.import_nonexecute r (p.program.set_of c.dat) c.element ≡ true))
   imported r c h =
       let a : (in_set p c ≡ true) × ((p.import_execute r (p.program.set_of c.dat) c.element || p.import_nonexecute r
-          (p.program.set_of c.dat) c.element) ≡ true) = and_parts (in_set p c)
-          (p.import_execute r (p.program.set_of c.dat) c.element || p.import_nonexecute r (p.program.set_of c.dat) c.element) h in
-      (ltb-true c.element (p.program.size (p.program.set_of c.dat)) a.0,
-          or_cases (p.import_execute r (p.program.set_of c.dat) c.element) (p.import_nonexecute r (p.program.set_of c.dat) c.element) a.1)
+      (p.program.set_of c.dat) c.element) ≡ true) = and_parts (in_set p c)
+      (p.import_execute r (p.program.set_of c.dat) c.element || p.import_nonexecute r (p.program.set_of c.dat) c.element) h in (
+        ltb-true c.element (p.program.size (p.program.set_of c.dat)) a.0,
+        or_cases (p.import_execute r (p.program.set_of c.dat) c.element) (p.import_nonexecute r (p.program.set_of c.dat) c.element) a.1,
+      )
 
   imports_other : (r : ℕ) (c : DatCell) → r < p.ranks → has_copy p r c ≡ true → owner_of p c ≡ r → ⊥
   imports_other r c lr h own =
       let a : (c.element < p.program.size (p.program.set_of c.dat))
-          × ((p.import_execute r (p.program.set_of c.dat) c.element ≡ true)
-          ⊎ (p.import_nonexecute r (p.program.set_of c.dat) c.element ≡ true)) = imported r c h in
+      × ((p.import_execute r (p.program.set_of c.dat) c.element ≡ true)
+      ⊎ (p.import_nonexecute r (p.program.set_of c.dat) c.element ≡ true)) = imported r c h in
       let mine : p.owner (p.program.set_of c.dat) c.element ≡ r = sym (owner_is c a.0) ∙ own in
       ⊎_elim (λ t. f.execute_other r (p.program.set_of c.dat) c.element lr a.0 t mine) (λ t. f.nonexecute_other r (p.program.set_of c.dat) c.element lr a.0 t mine) a.1
 
   linked : (k r : ℕ) (c : DatCell) → p.program.kind k ≡ Free → r < p.ranks → has_copy p r c ≡ true → p.exchanged k c.dat ≡ true → p.sends k (owner_of p c) r ≡ true
   linked k r c fr lr h x =
       let a : (c.element < p.program.size (p.program.set_of c.dat))
-          × ((p.import_execute r (p.program.set_of c.dat) c.element ≡ true)
-          ⊎ (p.import_nonexecute r (p.program.set_of c.dat) c.element ≡ true)) = imported r c h in
+      × ((p.import_execute r (p.program.set_of c.dat) c.element ≡ true)
+      ⊎ (p.import_nonexecute r (p.program.set_of c.dat) c.element ≡ true)) = imported r c h in
       ap (λ s. p.sends k s r) (owner_is c a.0) ∙ f.sent k r c.dat c.element fr lr x a.0 a.1
 
   pub colours : Coloured p
@@ -277,7 +278,7 @@ module _ {F : Type 0} (p : Setup F) (f : LoopParts p) where
       ⊎_elim
       (λ (one : (o : Reduction) × ((x : ℕ) → x < args k → is_on c.dat (arg k x) ≡ true → access_of (arg k x) ≡ OpReduce o)).
       f.coloured k r a b s.0.by t.0.by c.dat fr lr la lb xa xb ne s.0.one_of t.0.one_of s.0.on t.0.on one.0 one.0
-          (one.1 s.0.by s.0.one_of s.0.on) (one.1 t.0.by t.0.one_of t.0.on) (s.0.hits ∙ sym t.0.hits))
+      (one.1 s.0.by s.0.one_of s.0.on) (one.1 t.0.by t.0.one_of t.0.on) (s.0.hits ∙ sym t.0.hits))
       (λ (dir : (x : ℕ) → x < args k → is_on c.dat (arg k x) ≡ true → is_direct (arg k x) ≡ true).
       absurd (ne (sym (direct_element k a c fr s.0 (dir s.0.by s.0.one_of s.0.on)) ∙ direct_element k b c fr t.0 (dir t.0.by t.0.one_of t.0.on))))
       (one_kind k a c fr s.0 s.1)

@@ -179,7 +179,7 @@ module _ (entry : Entries) (dim width : ℕ → ℕ) (arg : ℕ → Argument) (e
   reader zero a lt r h = absurd (omega arith)
   reader (suc n) a lt r h = ⊎_elim
       (λ (i : a ≡ n). ap is_read (cond-true (reach n) (joined (C n) (access_of (arg n))) (C n) (ap reach (sym i) ∙ r))
-          ∙ read_joins (C n) (access_of (arg n)) (ap (λ z. reading (access_of (arg z))) (sym i) ∙ h))
+      ∙ read_joins (C n) (access_of (arg n)) (ap (λ z. reading (access_of (arg z))) (sym i) ∙ h))
       (λ (ne : a ≡ n → ⊥).
       let before : is_read (C n) ≡ true = reader n a (omega arith) r h in
       ⊎_elim

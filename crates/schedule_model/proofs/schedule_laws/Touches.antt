@@ -65,7 +65,7 @@ module _ (entry : Entries) (dim width : ℕ → ℕ) (arg : ℕ → Argument) (e
       (λ u. (n, omega arith, t, u))
       (read_joined (C n) (access_of (arg n)) (ap is_read (sym (touch_more n t)) ∙ h)))
       (λ (t : reach n ≡ false). let r : (a : ℕ) × (a < n) × (reach a ≡ true) × (reading (access_of (arg a)) ≡ true) =
-          read_by n (ap is_read (sym (touch_same n t)) ∙ h) in (r.0, (let l : r.0 < n = r.1 in omega arith), r.2, r.3))
+      read_by n (ap is_read (sym (touch_same n t)) ∙ h) in (r.0, (let l : r.0 < n = r.1 in omega arith), r.2, r.3))
       (cases_Bool (reach n))
 
   pub modified_by : (n : ℕ) → is_modified (C n) ≡ true → (a : ℕ) × (a < n) × (reach a ≡ true) × (modifying (access_of (arg a)) ≡ true)
@@ -76,7 +76,7 @@ module _ (entry : Entries) (dim width : ℕ → ℕ) (arg : ℕ → Argument) (e
       (λ u. (n, omega arith, t, u))
       (modified_joined (C n) (access_of (arg n)) (ap is_modified (sym (touch_more n t)) ∙ h)))
       (λ (t : reach n ≡ false). let r : (a : ℕ) × (a < n) × (reach a ≡ true) × (modifying (access_of (arg a)) ≡ true) =
-          modified_by n (ap is_modified (sym (touch_same n t)) ∙ h) in (r.0, (let l : r.0 < n = r.1 in omega arith), r.2, r.3))
+      modified_by n (ap is_modified (sym (touch_same n t)) ∙ h) in (r.0, (let l : r.0 < n = r.1 in omega arith), r.2, r.3))
       (cases_Bool (reach n))
 
   -- no argument reaches the cell
@@ -171,17 +171,17 @@ modified_if entry dim width arg e c zero a lt r m = absurd (omega arith)
 modified_if entry dim width arg e c (suc n) a lt r m = ⊎_elim
     (λ (i : a ≡ n).
     ap is_modified (cond-true (reaches entry dim width e (arg n) c) (joined (touch_by entry dim width arg n e c) (access_of (arg n)))
-        (touch_by entry dim width arg n e c) (ap (λ z. reaches entry dim width e (arg z) c) (sym i) ∙ r))
+    (touch_by entry dim width arg n e c) (ap (λ z. reaches entry dim width e (arg z) c) (sym i) ∙ r))
     ∙ joined_modifies (touch_by entry dim width arg n e c) (access_of (arg n)) (ap (λ z. modifying (access_of (arg z))) (sym i) ∙ m))
     (λ (ne : a ≡ n → ⊥).
     let before : is_modified (touch_by entry dim width arg n e c) ≡ true = modified_if entry dim width arg e c n a (omega arith) r m in
     ⊎_elim
     (λ (t : reaches entry dim width e (arg n) c ≡ true). ap is_modified
-        (cond-true (reaches entry dim width e (arg n) c) (joined (touch_by entry dim width arg n e c) (access_of (arg n)))
-        (touch_by entry dim width arg n e c) t) ∙ joined_keeps (touch_by entry dim width arg n e c) (access_of (arg n)) before)
+    (cond-true (reaches entry dim width e (arg n) c) (joined (touch_by entry dim width arg n e c) (access_of (arg n)))
+    (touch_by entry dim width arg n e c) t) ∙ joined_keeps (touch_by entry dim width arg n e c) (access_of (arg n)) before)
     (λ (t : reaches entry dim width e (arg n) c ≡ false). ap is_modified
-        (cond-false (reaches entry dim width e (arg n) c) (joined (touch_by entry dim width arg n e c) (access_of (arg n)))
-        (touch_by entry dim width arg n e c) t) ∙ before)
+    (cond-false (reaches entry dim width e (arg n) c) (joined (touch_by entry dim width arg n e c) (access_of (arg n)))
+    (touch_by entry dim width arg n e c) t) ∙ before)
     (cases_Bool (reaches entry dim width e (arg n) c)))
     (cases_eq a n)
 
@@ -192,7 +192,7 @@ pub direct_reaches : (entry : Entries) (dim width : ℕ → ℕ) (e : ℕ) (x y 
 direct_reaches entry dim width e (Direct d x) (Direct f y) c h i on j =
     let a : ((d == c.dat) ≡ true) × (((e == c.element) && nat_lt c.component (dim d)) ≡ true) = and_parts (d == c.dat) ((e == c.element) && nat_lt c.component (dim d)) h in
     and_from (f == c.dat) ((e == c.element) && nat_lt c.component (dim f)) on
-        (subst (λ z. ((e == c.element) && nat_lt c.component (dim z)) ≡ true) (eqb-true d c.dat a.0 ∙ sym (eqb-true f c.dat on)) a.1)
+    (subst (λ z. ((e == c.element) && nat_lt c.component (dim z)) ≡ true) (eqb-true d c.dat a.0 ∙ sym (eqb-true f c.dat on)) a.1)
 direct_reaches entry dim width e (Direct d x) (Indirect f m k y) c h i on j = absurd (false≢true j)
 direct_reaches entry dim width e (Direct d x) (Global v y) c h i on j = absurd (false≢true j)
 direct_reaches entry dim width e (Indirect d m k x) y c h i on j = absurd (false≢true i)

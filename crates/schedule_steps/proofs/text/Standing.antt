@@ -30,19 +30,19 @@ rank_is : (text : List ℕ) (r : RankWord) → rank_word_of text ≡ Some r → 
 rank_is text r h = elim (cond_cases (bytes_eq text (codes "begin")) (Some word.Begin)
     (cond (bytes_eq text (codes "end")) (Some word.End)
     (cond (bytes_eq text (codes "send")) (Some word.Send) (cond (bytes_eq text (codes "recv")) (Some word.Recv) None))) (Some r) h) [
-  | inl k ↦ let e : word.Begin ≡ r = cc in bytes_eq_same text (codes "begin") k.0 ∙ ap rank_text e
-  | inr k ↦ elim (cond_cases (bytes_eq text (codes "end")) (Some word.End)
-      (cond (bytes_eq text (codes "send")) (Some word.Send) (cond (bytes_eq text (codes "recv")) (Some word.Recv) None)) (Some r) k.1) [
-    | inl m ↦ let e : word.End ≡ r = cc in bytes_eq_same text (codes "end") m.0 ∙ ap rank_text e
-    | inr m ↦ elim (cond_cases (bytes_eq text (codes "send")) (Some word.Send) (cond (bytes_eq text (codes "recv")) (Some word.Recv) None) (Some r) m.1) [
-      | inl n ↦ let e : word.Send ≡ r = cc in bytes_eq_same text (codes "send") n.0 ∙ ap rank_text e
-      | inr n ↦ elim (cond_cases (bytes_eq text (codes "recv")) (Some word.Recv) None (Some r) n.1) [
-        | inl o ↦ let e : word.Recv ≡ r = cc in bytes_eq_same text (codes "recv") o.0 ∙ ap rank_text e
-        | inr o ↦ absurd (cc o.1)
-      ]
+      | inl k ↦ let e : word.Begin ≡ r = cc in bytes_eq_same text (codes "begin") k.0 ∙ ap rank_text e
+      | inr k ↦ elim (cond_cases (bytes_eq text (codes "end")) (Some word.End)
+          (cond (bytes_eq text (codes "send")) (Some word.Send) (cond (bytes_eq text (codes "recv")) (Some word.Recv) None)) (Some r) k.1) [
+            | inl m ↦ let e : word.End ≡ r = cc in bytes_eq_same text (codes "end") m.0 ∙ ap rank_text e
+            | inr m ↦ elim (cond_cases (bytes_eq text (codes "send")) (Some word.Send) (cond (bytes_eq text (codes "recv")) (Some word.Recv) None) (Some r) m.1) [
+              | inl n ↦ let e : word.Send ≡ r = cc in bytes_eq_same text (codes "send") n.0 ∙ ap rank_text e
+              | inr n ↦ elim (cond_cases (bytes_eq text (codes "recv")) (Some word.Recv) None (Some r) n.1) [
+                | inl o ↦ let e : word.Recv ≡ r = cc in bytes_eq_same text (codes "recv") o.0 ∙ ap rank_text e
+                | inr o ↦ absurd (cc o.1)
+              ]
+            ]
+          ]
     ]
-  ]
-]
 
 -- the bytes of a word
 abbrev pub key_text : Keyword → List ℕ

@@ -17,8 +17,8 @@ use crate::text::lines::{Line, SCHEDULE_STEPS};
 use crate::text::refusals::ScheduleTextRefusal;
 use crate::text::token::{Keyword, RankWord, StepWord, is_magic, is_version, read_keyword};
 use op_num::read_u64;
-use std::alloc::Global;
 use op_num::texts::{Token, Tokens};
+use std::alloc::Global;
 
 /// The steps that the schedule text `bytes` spells, at most [`SCHEDULE_STEPS`], in order, each with its line. Each
 /// refusal is that of the first token, in order, that may not stand where it does, or of the end;

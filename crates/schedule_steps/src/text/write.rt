@@ -9,9 +9,9 @@ ghost use Rattle.schedule_steps.specs.Written.{tokens_of, schedule_text, one_a_l
 
 use crate::Step;
 use crate::text::lines::SCHEDULE_STEPS;
+use op_num::texts::lines_are_cut;
 use op_num::{OutOfMemory, number_is_read, put_u64};
 use std::alloc::Global;
-use op_num::texts::lines_are_cut;
 
 /// The text of these steps: the header, one line for each step in order, and `done`. Where they are no more than
 /// [`SCHEDULE_STEPS`], `read_schedule` reads the text again, the first step on line 2, the next on line 3, and so on.

@@ -95,13 +95,13 @@ mark_kept of done left at t k lt h =
         (λ (e : get_or of t 0 ≡ c).
         let weighs : one (get_or of t 0 == c) ≡ 1 = one_same (get_or of t 0) c e in
         let got : get_or (set left (get_or of t 0) (get_or left (get_or of t 0) 0 - 1)) c 0 ≡ get_or left c 0 - 1 =
-            subst (λ z. get_or (set left (get_or of t 0) (get_or left (get_or of t 0) 0 - 1)) z 0 ≡ get_or left z 0 - 1) e
-            (get_or-set_same left (get_or of t 0) (get_or left (get_or of t 0) 0 - 1) 0 (k.stages t lt)) in
+        subst (λ z. get_or (set left (get_or of t 0) (get_or left (get_or of t 0) 0 - 1)) z 0 ≡ get_or left z 0 - 1) e
+        (get_or-set_same left (get_or of t 0) (get_or left (get_or of t 0) 0 - 1) 0 (k.stages t lt)) in
         omega arith)
         (λ (ne : get_or of t 0 ≡ c → ⊥).
         let weighs : one (get_or of t 0 == c) ≡ 0 = one_other (get_or of t 0) c ne in
         let got : get_or (set left (get_or of t 0) (get_or left (get_or of t 0) 0 - 1)) c 0 ≡ get_or left c 0 =
-            get_or-set_other left (get_or of t 0) c (get_or left (get_or of t 0) 0 - 1) 0 (λ q. ne (sym q)) in
+        get_or-set_other left (get_or of t 0) c (get_or left (get_or of t 0) 0 - 1) 0 (λ q. ne (sym q)) in
         omega arith)
         (cases_eq (get_or of t 0) c)
 

@@ -51,7 +51,7 @@ module _ (v : Run) (p : ℕ) (m cs : Marks) (w : Whole v) (inside : p < length v
   done_length : (i : ℕ) → length (block_at after i).done ≡ length (block_at v i).done
   done_length i = ⊎_elim
       (λ (e : i ≡ b). subst (λ z. length (block_at after z).done ≡ length (block_at v z).done) (sym e)
-          (ap (λ z. length z.done) here ∙ (ap length done ∙ length-set (block_at v b).done (p % v.size) true)))
+      (ap (λ z. length z.done) here ∙ (ap length done ∙ length-set (block_at v b).done (p % v.size) true)))
       (λ (ne : i ≡ b → ⊥). ap (λ z. length z.done) (there i ne))
       (cases_eq i b)
 
@@ -63,8 +63,8 @@ module _ (v : Run) (p : ℕ) (m cs : Marks) (w : Whole v) (inside : p < length v
       (λ (e : q ≡ p). subst (λ z. ended_at after z ≡ (z == p || ended_at v z)) (sym e)
       (ap (λ z. get_or z.done (p % v.size) false) here ∙ (ap (λ z. get_or z (p % v.size) false) done
       ∙ (get_or-set_same (block_at v b).done (p % v.size) true false
-          (subst (λ z. p % v.size < z) (sym (w.block_done b (w.block_in p inside))) (w.place_in p inside))
-          ∙ sym (or_left (p == p) (ended_at v p) (eq-eqb p p refl))))))
+      (subst (λ z. p % v.size < z) (sym (w.block_done b (w.block_in p inside))) (w.place_in p inside))
+      ∙ sym (or_left (p == p) (ended_at v p) (eq-eqb p p refl))))))
       (λ (ne : q ≡ p → ⊥). other q ne ∙ sym (ap (λ z. z || ended_at v q) (ne_eqb q p ne)))
       (cases_eq q p)
     where
@@ -92,7 +92,7 @@ module _ (v : Run) (p : ℕ) (m cs : Marks) (w : Whole v) (inside : p < length v
     closed = λ i il. ⊎_elim
         (λ (e : i ≡ b). subst (λ z. (get_or cs.done z false ≡ true) ↔ AllDone (block_at after z)) (sym e) (subst (λ z. (get_or cs.done b false ≡ true) ↔ AllDone z) (sym here) this))
         (λ (ne : i ≡ b → ⊥). subst (λ z. (z ≡ true) ↔ AllDone (block_at after i)) (sym (others i ne))
-            (subst (λ z. (get_or v.colours.done i false ≡ true) ↔ AllDone z) (sym (there i ne)) (w.closed i (rw length-set at il))))
+        (subst (λ z. (get_or v.colours.done i false ≡ true) ↔ AllDone z) (sym (there i ne)) (w.closed i (rw length-set at il))))
         (cases_eq i b);
     core_each = w.core_each;
     begins_first = λ q lt e. ⊎_elim

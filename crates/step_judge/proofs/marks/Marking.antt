@@ -190,7 +190,7 @@ module _ (v : Marked) (k s r : ℕ) (inn : k < length v.items) (paired : Paired 
   pair_same a b e =
       let f : (get_or w.sends.of (place_of w s r) 0 ≡ s) × (get_or w.receipts.of (place_of w s r) 0 ≡ r) = pair_found w.sends.of w.receipts.of s r paired.both link in
       let g : (get_or w.sends.of (place_of w a b) 0 ≡ a) × (get_or w.receipts.of (place_of w a b) 0 ≡ b) =
-          pair_found w.sends.of w.receipts.of a b paired.both (subst (λ z. z < length w.sends.of) (sym e) link) in
+      pair_found w.sends.of w.receipts.of a b paired.both (subst (λ z. z < length w.sends.of) (sym e) link) in
       (sym g.0 ∙ (ap (λ z. get_or w.sends.of z 0) e ∙ f.0), sym g.1 ∙ (ap (λ z. get_or w.receipts.of z 0) e ∙ f.1))
 
   -- one mark more
@@ -201,10 +201,10 @@ module _ (v : Marked) (k s r : ℕ) (inn : k < length v.items) (paired : Paired 
       (λ (e : place_of w a b ≡ place_of w s r).
       let q : (a ≡ s) × (b ≡ r) = pair_same a b e in
       ap (λ z. get_or (set done (place_of w s r) true) z false) e
-          ∙ (get_or-set_same done (place_of w s r) true false (subst (λ z. place_of w s r < z) (sym n) link)
-          ∙ sym (or_left c (get_or done (place_of w a b) false) (hit q.0 q.1))))
+      ∙ (get_or-set_same done (place_of w s r) true false (subst (λ z. place_of w s r < z) (sym n) link)
+      ∙ sym (or_left c (get_or done (place_of w a b) false) (hit q.0 q.1))))
       (λ (ne : place_of w a b ≡ place_of w s r → ⊥). get_or-set_other done (place_of w s r) (place_of w a b) true false ne
-          ∙ or_self _ c (miss (λ q. ne (ap (λ z. place_of w z b) q.0 ∙ ap (λ z. place_of w s z) q.1))))
+      ∙ or_self _ c (miss (λ q. ne (ap (λ z. place_of w z b) q.0 ∙ ap (λ z. place_of w s z) q.1))))
       (cases_eq (place_of w a b) (place_of w s r))
 
   same3_yes : (a b : ℕ) → a ≡ s → b ≡ r → same3 k a b k s r ≡ true
@@ -254,8 +254,8 @@ module _ (v : Marked) (k s r : ℕ) (inn : k < length v.items) (paired : Paired 
       mark : (t : Step) → item t ≡ k → taken (after v k received_item inn received_shape) t ≡ (same t (Recv k r s) || taken v t)
       mark (Recv i b a) e = subst (λ z. received (item_at (after v k received_item inn received_shape) z) a b ≡ (same3 z b a k r s || received (item_at v z) a b)) (sym e)
           (ap (λ z. received z a b) (here v k received_item inn received_shape)
-              ∙ marked_at w.receipts.done paired.received_each a b (same3 k b a k r s)
-              (λ p q. and_from _ _ (eq-eqb k k refl) (and_from _ _ (eq-eqb b r q) (eq-eqb a s p))) (same3_turned a b))
+          ∙ marked_at w.receipts.done paired.received_each a b (same3 k b a k r s)
+          (λ p q. and_from _ _ (eq-eqb k k refl) (and_from _ _ (eq-eqb b r q) (eq-eqb a s p))) (same3_turned a b))
       mark (Send i a b) e = subst (λ z. sent (item_at (after v k received_item inn received_shape) z) a b ≡ sent (item_at v z) a b) (sym e)
           (ap (λ z. sent z a b) (here v k received_item inn received_shape))
       mark (Begin i a b) e = subst (λ z. begun_at (run_at (item_at (after v k received_item inn received_shape) z) a) b ≡ begun_at
@@ -273,24 +273,47 @@ link_in v k s r st = (st.0, ltb-true _ _ st.4)
 
 pub send_wrote : (v : Marked) (at : List ℕ) (k s r pair : ℕ) (old new : Item) → Whole v at → IsStep (outline_of v) (Send k s r)
     → old ≡ get_or v.items k old → Paired old → pair ≡ place_of old s r
-    → new ≡ record { free = old.free; joined = old.joined; sends = record { of = old.sends.of; done = set old.sends.done pair true };
-    receipts = old.receipts; ranks = old.ranks } → Whole (put v k new) at × TakesOne v (put v k new) (Send k s r)
+    → new ≡ record {
+      free = old.free;
+      joined = old.joined;
+      sends = record { of = old.sends.of; done = set old.sends.done pair true };
+      receipts = old.receipts;
+      ranks = old.ranks;
+    } → Whole (put v k new) at × TakesOne v (put v k new) (Send k s r)
 send_wrote v at k s r pair old new w st read paired place wrote =
     let l : (k < length v.items) × (place_of (item_at v k) s r < length (item_at v k).sends.of) = link_in v k s r st in
     let o : old ≡ item_at v k = get_or_read v.items k old l.0 read no_item in
     let pd : Paired (item_at v k) = subst Paired o paired in
     let t : TakesOne v (put v k (sent_item v k s r l.0 pd l.1)) (Send k s r) = send_takes v k s r l.0 pd l.1 in
     let e : sent_item v k s r l.0 pd l.1 ≡ new = sym
-        (wrote ∙ (ap (λ z. record { free = old.free; joined = old.joined; sends =
-        record { of = old.sends.of; done = set old.sends.done z true }; receipts = old.receipts; ranks = old.ranks }) place
-        ∙ ap (λ z. record { free = z.free; joined = z.joined; sends =
-        record { of = z.sends.of; done = set z.sends.done (place_of z s r) true }; receipts = z.receipts; ranks = z.ranks }) o)) in
+    (wrote ∙ (ap (λ z. record {
+      free = old.free;
+      joined = old.joined;
+      sends =
+          record { of = old.sends.of; done = set old.sends.done z true };
+      receipts = old.receipts;
+      ranks = old.ranks;
+    }) place
+    ∙ ap (λ z. record {
+      free = z.free;
+      joined = z.joined;
+      sends =
+          record { of = z.sends.of; done = set z.sends.done (place_of z s r) true };
+      receipts = z.receipts;
+      ranks = z.ranks;
+    }) o)) in
     subst (λ z. Whole (put v k z) at × TakesOne v (put v k z) (Send k s r)) e (whole_after v k (sent_item v k s r l.0 pd l.1) l.0 (sent_shape v k s r l.0 pd l.1) at (Send k s r) w t, t)
 
 pub receive_wrote : (v : Marked) (at : List ℕ) (k s r pair : ℕ) (old new : Item) → Whole v at → IsStep (outline_of v) (Recv k r s)
     → old ≡ get_or v.items k old → Paired old → pair ≡ place_of old s r
-    → new ≡ record { free = old.free; joined = old.joined; sends = old.sends; receipts =
-    record { of = old.receipts.of; done = set old.receipts.done pair true }; ranks = old.ranks } → Whole (put v k new) at
+    → new ≡ record {
+      free = old.free;
+      joined = old.joined;
+      sends = old.sends;
+      receipts =
+          record { of = old.receipts.of; done = set old.receipts.done pair true };
+      ranks = old.ranks;
+    } → Whole (put v k new) at
     × TakesOne v (put v k new) (Recv k r s)
 receive_wrote v at k s r pair old new w st read paired place wrote =
     let l : (k < length v.items) × (place_of (item_at v k) s r < length (item_at v k).sends.of) = link_in v k s r st in
@@ -298,8 +321,20 @@ receive_wrote v at k s r pair old new w st read paired place wrote =
     let pd : Paired (item_at v k) = subst Paired o paired in
     let t : TakesOne v (put v k (received_item v k s r l.0 pd l.1)) (Recv k r s) = receive_takes v k s r l.0 pd l.1 in
     let e : received_item v k s r l.0 pd l.1 ≡ new = sym
-        (wrote ∙ (ap (λ z. record { free = old.free; joined = old.joined; sends = old.sends; receipts =
-        record { of = old.receipts.of; done = set old.receipts.done z true }; ranks = old.ranks }) place
-        ∙ ap (λ z. record { free = z.free; joined = z.joined; sends = z.sends; receipts =
-        record { of = z.receipts.of; done = set z.receipts.done (place_of z s r) true }; ranks = z.ranks }) o)) in
+    (wrote ∙ (ap (λ z. record {
+      free = old.free;
+      joined = old.joined;
+      sends = old.sends;
+      receipts =
+          record { of = old.receipts.of; done = set old.receipts.done z true };
+      ranks = old.ranks;
+    }) place
+    ∙ ap (λ z. record {
+      free = z.free;
+      joined = z.joined;
+      sends = z.sends;
+      receipts =
+          record { of = z.receipts.of; done = set z.receipts.done (place_of z s r) true };
+      ranks = z.ranks;
+    }) o)) in
     subst (λ z. Whole (put v k z) at × TakesOne v (put v k z) (Recv k r s)) e (whole_after v k (received_item v k s r l.0 pd l.1) l.0 (received_shape v k s r l.0 pd l.1) at (Recv k r s) w t, t)

@@ -132,7 +132,7 @@ module _ (size : ℕ) (blocks inners : List ℕ) (core : List Bool) (ms : List M
         let ranked : Ranked (part (p / size)) (block_at v (p / size)).of = (fresh (p / size) (block_of p pl)).order in
         let ql2 : q % size < length (part (p / size)) = subst (λ z. q % size < length (part z)) e (within q ql) in
         let low : nat_lt (get_or (block_at v (p / size)).of (q % size) 0) (inner v p) ≡ nat_lt (get_or (part (p / size)) (q % size) 0)
-            (get_or (part (p / size)) (p % size) 0) = lt_same _ _ _ _ (ranked.order (q % size) (p % size) ql2 (within p pl)) in
+        (get_or (part (p / size)) (p % size) 0) = lt_same _ _ _ _ (ranked.order (q % size) (p % size) ql2 (within p pl)) in
         ap (λ z. nat_lt (get_or (block_at v z).of (q % size) 0) (inner v p)) e
         ∙ (low
         ∙ (ap (λ z. nat_lt (get_or (part z) (q % size) 0) (get_or (part (p / size)) (p % size) 0)) (sym e)

@@ -19,10 +19,10 @@ pub pair_not_here : (fs ts : List ℕ) (s r i : ℕ) → i < length fs → lengt
 pair_not_here fs ts s r i lt n ne h =
     let it : i < length ts = omega arith in
     let a : pair_at (drop i fs) (drop i ts) s r ≡ pair_at (get_or fs i 0 ∷ drop (i + 1) fs) (get_or ts i 0 ∷ drop (i + 1) ts) s r =
-        ap (λ z. pair_at z (drop i ts) s r) (drop_more fs i 0 lt)
-        ∙ ap (λ z. pair_at (get_or fs i 0 ∷ drop (i + 1) fs) z s r) (drop_more ts i 0 it) in
+    ap (λ z. pair_at z (drop i ts) s r) (drop_more fs i 0 lt)
+    ∙ ap (λ z. pair_at (get_or fs i 0 ∷ drop (i + 1) fs) z s r) (drop_more ts i 0 it) in
     let b : pair_at (get_or fs i 0 ∷ drop (i + 1) fs) (get_or ts i 0 ∷ drop (i + 1) ts) s r ≡ suc
-        (pair_at (drop (i + 1) fs) (drop (i + 1) ts) s r) = ap (λ z. cond z 0 (suc (pair_at (drop (i + 1) fs) (drop (i + 1) ts) s r))) ne in
+    (pair_at (drop (i + 1) fs) (drop (i + 1) ts) s r) = ap (λ z. cond z 0 (suc (pair_at (drop (i + 1) fs) (drop (i + 1) ts) s r))) ne in
     omega (arith, h, a ∙ b)
 
 pub sent_iff : (w : Item) (x : ℕ) → Paired w → StageDone w.sends x ↔ AllSent w x

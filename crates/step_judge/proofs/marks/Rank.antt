@@ -1,4 +1,4 @@
-use Rattle.std.proofs.Common.{◌≡◌, ℕ, ◌<◌, ◌≤◌, ◌∙◌, arith, ⊎_elim, List, length, get_or}
+use Rattle.std.proofs.Common.{◌≡◌, ℕ, ◌<◌, ◌≤◌, arith, ⊎_elim, List, length, get_or}
 use Rattle.std.proofs.lemmas.Bool.{cases_lt}
 use Rattle.step_judge.specs.Ranked.{Point, Ranked}
 
@@ -17,7 +17,7 @@ pub point_back : (sorted : List ℕ) (c d r s : ℕ) → Point sorted c r → Po
 point_back sorted c d r s p q less = ⊎_elim
     (λ (a : c < d). a)
     (λ (a : d ≤ c). absurd (let n : s ≤ length sorted = q.within in let x : get_or sorted r 0 < d = q.below r less in
-        let y : c ≤ get_or sorted r 0 = p.above r (omega arith) (omega arith) in omega arith))
+    let y : c ≤ get_or sorted r 0 = p.above r (omega arith) (omega arith) in omega arith))
     (cases_lt c d)
 
 pub point_small : (sorted : List ℕ) (c r k : ℕ) → Point sorted c r → k < length sorted → get_or sorted k 0 ≡ c → r < length sorted

@@ -127,13 +127,15 @@ begin_wrote v at k r p old new w st read wrote =
     let o : old ≡ item_at v k = get_or_read v.items k old l.0 read no_item in
     let rank : r < length (item_at v k).ranks = rank_in (item_at v k) r p l.1 in
     let t : TakesOne v (put v k (with_run (item_at v k) r (begun_run (run_at (item_at v k) r) p))) (Begin k r p) =
-        begin_takes v k r p (begun_run (run_at (item_at v k) r) p) l.0 rank (begun_places (run_at (item_at v k) r) p)
-        (begun_marks (run_at (item_at v k) r) p l.1) (λ q. refl) in
+    begin_takes v k r p (begun_run (run_at (item_at v k) r) p) l.0 rank (begun_places (run_at (item_at v k) r) p)
+    (begun_marks (run_at (item_at v k) r) p l.1) (λ q. refl) in
     let e : with_run (item_at v k) r (begun_run (run_at (item_at v k) r) p) ≡ new = sym (wrote ∙ ap (λ z. with_run z r (begun_run (run_at z r) p)) o) in
-    subst (λ z. Whole (put v k z) at × TakesOne v (put v k z) (Begin k r p)) e
-    (whole_after v k (with_run (item_at v k) r (begun_run (run_at (item_at v k) r) p)) l.0
-        (run_shape (item_at v k) r (begun_run (run_at (item_at v k) r) p) rank (begun_places (run_at (item_at v k) r) p)) at (Begin k r p) w
-        t, t)
+    subst (λ z. Whole (put v k z) at × TakesOne v (put v k z) (Begin k r p)) e (
+      whole_after v k (with_run (item_at v k) r (begun_run (run_at (item_at v k) r) p)) l.0
+          (run_shape (item_at v k) r (begun_run (run_at (item_at v k) r) p) rank (begun_places (run_at (item_at v k) r) p)) at (Begin k r p) w
+          t,
+      t,
+    )
 
 pub end_wrote : (v : Marked) (at : List ℕ) (k r p : ℕ) (old new : Item) → Whole v at → IsStep (outline_of v) (End k r p)
     → old ≡ get_or v.items k old → ((run : Run) × (new ≡ with_run old r run) × (run.begun ≡ (run_at old r).begun)
@@ -146,8 +148,8 @@ end_wrote v at k r p old new w st read wrote =
     let run : Run = wrote.0 in
     let places : SamePlaces (run_at (item_at v k) r) run = subst (λ z. SamePlaces (run_at z r) run) o wrote.3 in
     let t : TakesOne v (put v k (with_run (item_at v k) r run)) (End k r p) =
-        end_takes v k r p run l.0 rank places (subst (λ z. (q : ℕ) → ended_at run q ≡ (q == p || ended_at (run_at z r) q)) o wrote.4)
-        (λ q. ap (λ z. get_or z q false) (subst (λ z. run.begun ≡ (run_at z r).begun) o wrote.2)) in
+    end_takes v k r p run l.0 rank places (subst (λ z. (q : ℕ) → ended_at run q ≡ (q == p || ended_at (run_at z r) q)) o wrote.4)
+    (λ q. ap (λ z. get_or z q false) (subst (λ z. run.begun ≡ (run_at z r).begun) o wrote.2)) in
     let e : with_run (item_at v k) r run ≡ new = sym (wrote.1 ∙ ap (λ z. with_run z r run) o) in
     subst (λ z. Whole (put v k z) at × TakesOne v (put v k z) (End k r p)) e
     (whole_after v k (with_run (item_at v k) r run) l.0 (run_shape (item_at v k) r run rank places) at (End k r p) w t, t)

@@ -64,8 +64,8 @@ module _ (o : Outline) where
   turn_alike : (a b : ℕ → List Step) (m : Step → Bool) (x : ℕ) → Alike a b → turn o a m x ≡ turn o b m x
   turn_alike a b m x h =
       ap (λ z. turn_by o a m x (next_join o m) z)
-          (numbers_same (λ r. is_early (next_join o m) (a r)) (λ r. is_early (next_join o m) (b r)) o.ranks
-          (λ r lt. ap (λ z. is_early (next_join o m) z) (h r lt)))
+      (numbers_same (λ r. is_early (next_join o m) (a r)) (λ r. is_early (next_join o m) (b r)) o.ranks
+      (λ r lt. ap (λ z. is_early (next_join o m) z) (h r lt)))
       ∙ by (numbers (λ r. is_early (next_join o m) (b r)) o.ranks)
     where
       by : (early : List ℕ) → turn_by o a m x (next_join o m) early ≡ turn_by o b m x (next_join o m) early

@@ -30,8 +30,8 @@ module _ (o : Outline) (rest : ℕ → List Step) (m : Step → Bool) (x : ℕ) 
   joined k [] h e = absurd (let y : Over ≡ JoinOf k = sym h ∙ e in cc)
   joined k (s ∷ l) h e =
       let y : (s ≡ Join k) × DrawnFrom o rest (marked s m) x l =
-          subst (λ z. TakenBy rest s z (DrawnFrom o rest (marked s m) x l)
-          (λ r left. DrawnFrom o (put_left r left rest) (marked s m) (drawn_number x) l)) e h in
+      subst (λ z. TakenBy rest s z (DrawnFrom o rest (marked s m) x l)
+      (λ r left. DrawnFrom o (put_left r left rest) (marked s m) (drawn_number x) l)) e h in
       (l, ap (λ z. z ∷ l) y.0, subst (λ z. DrawnFrom o rest (marked z m) x l) y.0 y.1)
 
   -- a rank's step is to come

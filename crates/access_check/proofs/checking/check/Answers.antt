@@ -23,5 +23,5 @@ returns-clause-disobeys c =
     let k = c.args.kernel.now in
     let modes = map model_of c.args.modes.now in
     refused_disobeys c.rules_are_broken.ensures.obeys k modes c.refusal_of.result
-        (c.refusal_of.ensures k modes (subst (λ f. IsFound f k modes) (sym c.found_in.ensures ∙ ap found_of c.in-Some.is)
-        (c.walk_finds.ensures k modes)))
+    (c.refusal_of.ensures k modes (subst (λ f. IsFound f k modes) (sym c.found_in.ensures ∙ ap found_of c.in-Some.is)
+    (c.walk_finds.ensures k modes)))

@@ -1,4 +1,4 @@
-use Rattle.std.proofs.Common.{◌≡◌, ◌∙◌, sym, ap, subst, ◌&&◌, length, map}
+use Rattle.std.proofs.Common.{◌∙◌, sym, ap, subst, ◌&&◌, length, map}
 use Rattle.kernel_model.specs.Obeys.{Mode, no_counters}
 use Rattle.kernel_model.specs.Refusals.{opposite, parameter_place}
 use Rattle.kernel_model.specs.Walk.{none_covered, covered_after, all_below, is_op_write}
@@ -22,8 +22,8 @@ loop-a-preserved c =
     subst (λ x. Agree modes (covered_after body no_counters x) after) none
     (subst (λ x. Agree modes (covered_after body x (has_component c.no_components-covered.result)) after) known c.walk.ensures.covered) in
     end_step (parameter_place c.args.kernel.now) modes (covered_after body no_counters none_covered) after agree c.loop-a.a
-        (length c.args.modes.now) c.lacks_some-broken.result c.place_of_parameter.result (found_of c.loop-a.found)
-        (found_of c.with_rule-found.result) c.loop-a-test.true
+    (length c.args.modes.now) c.lacks_some-broken.result c.place_of_parameter.result (found_of c.loop-a.found)
+    (found_of c.with_rule-found.result) c.loop-a-test.true
     (c.lacks_some-broken.ensures ∙ ap (λ (m : Mode). is_op_write m.access && opposite (all_below (after c.loop-a.a) m.dim)) c.mode_of.ensures)
     c.place_of_parameter.ensures c.with_rule-found.ensures
     ∙ c.loop-a.invariant

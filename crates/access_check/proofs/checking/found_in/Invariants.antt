@@ -10,4 +10,4 @@ abbrev pub invariant-loop-a : goal.invariant-loop-a
 invariant-loop-a l =
     ends_found (parameter_place l.kernel) (map model_of l.modes) (covered_after l.kernel.body.statement no_counters none_covered) l.a (length l.modes - l.a) (found_of l.found)
     ≡ ends_found (parameter_place l.kernel) (map model_of l.modes) (covered_after l.kernel.body.statement no_counters none_covered) 0
-        (length l.modes) (stmt_found (map model_of l.modes) l.kernel.body.statement no_counters none_covered None)
+    (length l.modes) (stmt_found (map model_of l.modes) l.kernel.body.statement no_counters none_covered None)

@@ -1,4 +1,4 @@
-use Rattle.std.proofs.Common.{◌≡◌, ◌∙◌, sym, ◌≤◌, ◌<◌}
+use Rattle.std.proofs.Common.{◌∙◌, sym}
 use Rattle.access_check.specs.States.{has_component}
 use Rattle.access_check.proofs.Ends.{below_step, below_lacks}
 use Rattle.access_check.proofs.checking.is_whole.Goals as goal

@@ -1,4 +1,4 @@
-use Rattle.std.proofs.Common.{rules, ◌∙◌, ◌<◌}
+use Rattle.std.proofs.Common.{rules}
 use Rattle.access_check.specs.States.{has_component}
 use Rattle.access_check.proofs.Bits.{with_bit_of}
 use Rattle.access_check.proofs.components.add_component.Goals as goal

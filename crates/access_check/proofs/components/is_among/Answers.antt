@@ -1,4 +1,4 @@
-use Rattle.std.proofs.Common.{ap, ◌∙◌, ℕ, nat_eq, slice_index_or}
+use Rattle.std.proofs.Common.{ap, ℕ, nat_eq, slice_index_or}
 use Rattle.std.proofs.lemmas.Nat.Bits.{shr_and_one}
 use Rattle.access_check.specs.States.{has_component}
 use Rattle.access_check.proofs.components.is_among.Goals as goal

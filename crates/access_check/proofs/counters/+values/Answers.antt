@@ -1,4 +1,4 @@
-use Rattle.std.proofs.Common.{◌≡◌, ◌+◌, ◌-◌, ◌<◌, ◌≤◌, ◌∙◌, length, map, get_or, refl, ap, arith, length-set}
+use Rattle.std.proofs.Common.{◌-◌, ◌<◌, ◌≤◌, ◌∙◌, length, map, get_or, refl, ap, arith, length-set}
 use Rattle.kernel_model.specs.Obeys.{static}
 use Rattle.access_check.specs.Chains.{over_chain}
 use Rattle.access_check.specs.States.{counters_of, number_of}
@@ -28,8 +28,8 @@ chain_value-down-preserved t c =
       all_smaller = all_below_set (λ e. size e ≤ size c.args.e.now) c.down.nodes (λ x. x.now) c.down.count c.down.here lt c.down.invariant.all_smaller c.down.invariant.smaller;
       value = chain_down cs c.down.nodes (λ x. x.now) c.down.count c.down.here (static c.deref-here.result.now cs) lt
           ∙ ap (over_chain cs (map (λ x. x.now) c.down.nodes) c.down.count)
-              (value_down cs c.down.here.now c.in-Binary.op c.in-Binary.left c.in-Binary.right c.in-Binary.at c.deref-here.result.now
-              c.in-Binary.is c.deref-here.ensures)
+          (value_down cs c.down.here.now c.in-Binary.op c.in-Binary.left c.in-Binary.right c.in-Binary.at c.deref-here.result.now
+          c.in-Binary.is c.deref-here.ensures)
           ∙ c.down.invariant.value;
     }
 

@@ -1,4 +1,4 @@
-use Rattle.std.proofs.Common.{◌≡◌, ◌∙◌, ◌&&◌, sym, ap, refl}
+use Rattle.std.proofs.Common.{◌∙◌, ◌&&◌, sym, ap, refl}
 use Rattle.kernel_model.specs.Refusals.{WritesRead, ReadsInc, IncNotSum, ReadsUnwritten, WriteIndexNotStatic, LiteralIndexOut, MinMaxForm, index_of, is_read}
 use Rattle.kernel_model.specs.Walk.{is_op_write, is_unknown, is_out, is_unwritten}
 use Rattle.op_num.specs.Access.{access_of}

@@ -1,4 +1,4 @@
-use Rattle.std.proofs.Common.{◌≡◌, ◌∙◌, refl, sym, ap, subst, ◌+◌, ◌-◌, ◌<◌, ◌≤◌, ◌∷◌, pos, Some, length, map, set, drop, arith, to_z, w32, length-set, false}
+use Rattle.std.proofs.Common.{◌≡◌, ◌∙◌, refl, sym, ap, subst, ◌+◌, ◌-◌, ◌≤◌, ◌∷◌, pos, Some, length, map, set, drop, arith, to_z, w32, length-set, false}
 use Rattle.std.proofs.lemmas.Int.{to_z_pos}
 use Rattle.kernel_model.specs.declared.types.statements.RStmt.{RStmt}
 use Rattle.kernel_model.specs.Obeys.{with_counter}
@@ -81,7 +81,7 @@ walk_turns-loop-i-preserved t c =
           ∙ c.loop-i.invariant.found;
       covered = agree_then modes _ _ _ c.loop-i.invariant.covered
           (turn_covered modes (λ j d g. stmt_found modes body (with_counter cs k (pos j)) d g)
-              (λ j d. covered_after body (with_counter cs k (pos j)) d) (turn_ih modes body cs k) i c.args.past before after lt agree);
+          (λ j d. covered_after body (with_counter cs k (pos j)) d) (turn_ih modes body cs k) i c.args.past before after lt agree);
     }
 
 pub walk_turns-returns-clause-covered : goal.walk_turns-returns-clause-covered
@@ -93,7 +93,7 @@ walk_turns-returns-clause-covered t c =
     let le : c.args.past ≤ c.loop-i.i = omega (arith, c.loop-i-test.false) in
     λ a j l. c.loop-i.invariant.covered a j l
     ∙ ap (λ (x : Covered). x a j) (covered_end modes (λ i d g. stmt_found modes body (with_counter cs k (pos i)) d g)
-        (λ i d. covered_after body (with_counter cs k (pos i)) d) c.loop-i.i c.args.past (has_component c.loop-i.covered) le)
+    (λ i d. covered_after body (with_counter cs k (pos i)) d) c.loop-i.i c.args.past (has_component c.loop-i.covered) le)
 
 pub walk-returns-in-For-clause-found : goal.walk-returns-in-For-clause-found
 walk-returns-in-For-clause-found t c =
@@ -108,8 +108,8 @@ walk-returns-in-For-clause-found t c =
     c.walk_turns.ensures.found
     ∙ enough_find modes body cs k (names_of c.args.named.now k) unnamed c.in-For.first c.in-For.past c.enough_turns-enough.result covered found c.enough_turns-enough.ensures
     ∙ ap (λ (b : RStmt). turns_found modes (λ i d g. stmt_found modes b (with_counter cs k (pos i)) d g)
-        (λ i d. covered_after b (with_counter cs k (pos i)) d) c.in-For.first (c.in-For.past - c.in-For.first) covered found)
-        c.deref-in-For.ensures
+    (λ i d. covered_after b (with_counter cs k (pos i)) d) c.in-For.first (c.in-For.past - c.in-For.first) covered found)
+    c.deref-in-For.ensures
     ∙ ap (λ (st : RStmt). stmt_found modes st cs covered found) (sym c.in-For.is)
 
 pub walk-returns-in-For-clause-covered : goal.walk-returns-in-For-clause-covered

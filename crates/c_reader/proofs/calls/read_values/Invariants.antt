@@ -8,4 +8,4 @@ use Rattle.c_reader.proofs.calls.read_values.Given as goal
 abbrev pub invariant-loop-count : goal.invariant-loop-count
 invariant-loop-count l =
     behind_commas (kinds l.tokens) (read (kinds l.tokens) l.depth 0) (length l.tokens) l.at ≡ with_front (map expr_of l.all.items)
-        (behind_commas (kinds l.tokens) (read (kinds l.tokens) l.depth 0) (length l.tokens - l.count) l.next)
+    (behind_commas (kinds l.tokens) (read (kinds l.tokens) l.depth 0) (length l.tokens - l.count) l.next)

@@ -9,5 +9,5 @@ use Rattle.c_reader.proofs.declarations.read_declrs.Given as goal
 abbrev pub invariant-loop-count : goal.invariant-loop-count
 invariant-loop-count l =
     separated (kinds l.tokens) (declr_at (kinds l.tokens) l.depth l.is_const) s.Semicolon (length l.tokens) l.at ≡ with_front
-        (map declr_of l.all.items) (separated (kinds l.tokens) (declr_at (kinds l.tokens) l.depth l.is_const) s.Semicolon
-        (length l.tokens - l.count) l.next)
+    (map declr_of l.all.items) (separated (kinds l.tokens) (declr_at (kinds l.tokens) l.depth l.is_const) s.Semicolon
+    (length l.tokens - l.count) l.next)

@@ -32,4 +32,4 @@ decreases-read_worded l = 5 * l.depth + 2
 abbrev pub invariant-read_chain-loop-count : goal.invariant-read_chain-loop-count
 invariant-read_chain-loop-count l =
     chain (kinds l.tokens) (read_at (kinds l.tokens) l.depth) 128 l.min (expr_of l.fn.first) l.fn.at ≡ chain (kinds l.tokens)
-        (read_at (kinds l.tokens) l.depth) (128 - l.count) l.min (expr_of l.left) l.next
+    (read_at (kinds l.tokens) l.depth) (128 - l.count) l.min (expr_of l.left) l.next

@@ -20,16 +20,16 @@ pub read_hosts-returns-in_err-one : goal.read_hosts-returns-in_err-one
 read_hosts-returns-in_err-one t c =
     let p = err_from_is_err_and c.from_residual.result c.from_residual.ensures.1 in
     rw (p.1, p.2, length-map) (until_fails host_of (is_closed (kinds c.args.tokens.now) c.args.closing)
-        (host_at (kinds c.args.tokens.now) c.args.depth) (length c.args.tokens.now) c.loop-count.count c.loop-count.next
-        c.loop-count.all.items _ c.loop-count.invariant c.in_err-one.field-0.0 c.loop-count-test.true
-        (sym c.is_closed.ensures ∙ c.if-is_closed.false) c.in_err-one.ensures)
+    (host_at (kinds c.args.tokens.now) c.args.depth) (length c.args.tokens.now) c.loop-count.count c.loop-count.next
+    c.loop-count.all.items _ c.loop-count.invariant c.in_err-one.field-0.0 c.loop-count-test.true
+    (sym c.is_closed.ensures ∙ c.if-is_closed.false) c.in_err-one.ensures)
 
 pub read_hosts-loop-count-preserved : goal.read_hosts-loop-count-preserved
 read_hosts-loop-count-preserved t c =
     rw c.in_ok-push.ensures.items (until_turn host_of (is_closed (kinds c.args.tokens.now) c.args.closing)
-        (host_at (kinds c.args.tokens.now) c.args.depth) (length c.args.tokens.now) c.loop-count.count c.loop-count.next
-        c.loop-count.all.items _ c.loop-count.invariant c.in_ok-one.one c.in_ok-one.after c.loop-count-test.true
-        (sym c.is_closed.ensures ∙ c.if-is_closed.false) c.in_ok-one.ensures)
+    (host_at (kinds c.args.tokens.now) c.args.depth) (length c.args.tokens.now) c.loop-count.count c.loop-count.next
+    c.loop-count.all.items _ c.loop-count.invariant c.in_ok-one.one c.in_ok-one.after c.loop-count-test.true
+    (sym c.is_closed.ensures ∙ c.if-is_closed.false) c.in_ok-one.ensures)
 
 pub read_hosts-returns : goal.read_hosts-returns
 read_hosts-returns t c = rw length-map
@@ -40,19 +40,19 @@ pub read_if-returns-in_err-otherwise : goal.read_if-returns-in_err-otherwise
 read_if-returns-in_err-otherwise t c =
     let p = err_from_is_err_and c.from_residual-in_err-otherwise.result c.from_residual-in_err-otherwise.ensures.1 in
     rw (p.1, p.2) (if_two_fails (kinds c.args.tokens.now) c.args.depth (host_at (kinds c.args.tokens.now) c.args.depth) c.args.at _ _ _ _
-        c.in_err-otherwise.field-0.0 c.in_ok-condition.ensures c.in_ok-then.ensures (sym c.is_word.ensures.is ∙ c.if-is_word.true)
-        c.in_err-otherwise.ensures)
+    c.in_err-otherwise.field-0.0 c.in_ok-condition.ensures c.in_ok-then.ensures (sym c.is_word.ensures.is ∙ c.if-is_word.true)
+    c.in_err-otherwise.ensures)
 
 pub read_if-returns-in_ok-otherwise : goal.read_if-returns-in_ok-otherwise
 read_if-returns-in_ok-otherwise t c =
     (if_two (kinds c.args.tokens.now) c.args.depth (host_at (kinds c.args.tokens.now) c.args.depth) c.args.at _ _ _ _ _ _
-        c.in_ok-condition.ensures c.in_ok-then.ensures (sym c.is_word.ensures.is ∙ c.if-is_word.true) c.in_ok-otherwise.ensures)
+    c.in_ok-condition.ensures c.in_ok-then.ensures (sym c.is_word.ensures.is ∙ c.if-is_word.true) c.in_ok-otherwise.ensures)
 
 pub read_block-returns : goal.read_block-returns
 read_block-returns t c =
     rw (block_view c.args.at c.in_ok-body.body)
-        (block_led (kinds c.args.tokens.now) c.args.depth (host_at (kinds c.args.tokens.now) c.args.depth) _ c.args.at _ _ _ _ refl
-        c.in_ok-next.ensures c.in_ok-body.ensures c.in_ok-next-2.ensures)
+    (block_led (kinds c.args.tokens.now) c.args.depth (host_at (kinds c.args.tokens.now) c.args.depth) _ c.args.at _ _ _ _ refl
+    c.in_ok-next.ensures c.in_ok-body.ensures c.in_ok-next-2.ensures)
 
 pub read_host-returns : goal.read_host-returns
 read_host-returns t c =

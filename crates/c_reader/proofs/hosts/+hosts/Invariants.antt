@@ -30,5 +30,5 @@ decreases-read_hosts l = 5 * l.depth + 1
 abbrev pub invariant-read_hosts-loop-count : goal.invariant-read_hosts-loop-count
 invariant-read_hosts-loop-count l =
     until (is_closed (kinds l.tokens) l.closing) (host_at (kinds l.tokens) l.depth) (length l.tokens) l.at ≡ with_front
-        (map host_of l.all.items) (until (is_closed (kinds l.tokens) l.closing) (host_at (kinds l.tokens) l.depth)
-        (length l.tokens - l.count) l.next)
+    (map host_of l.all.items) (until (is_closed (kinds l.tokens) l.closing) (host_at (kinds l.tokens) l.depth)
+    (length l.tokens - l.count) l.next)

@@ -16,14 +16,14 @@ pub returns-in_err-one : goal.returns-in_err-one
 returns-in_err-one c =
     let p = err_from_is_err_and c.from_residual.result c.from_residual.ensures.1 in
     rw (p.1, p.2, length-map) (commas_fails (λ x. x) (kinds c.args.tokens.now) (arg_at (kinds c.args.tokens.now)) (length c.args.tokens.now)
-        c.loop-count.count c.loop-count.next c.loop-count.all.items _ c.loop-count.invariant c.in_err-one.field-0.0 c.loop-count-test.true
-        (sym c.is_sign.ensures.is ∙ c.if-not-is_sign.false) c.in_err-one.ensures)
+    c.loop-count.count c.loop-count.next c.loop-count.all.items _ c.loop-count.invariant c.in_err-one.field-0.0 c.loop-count-test.true
+    (sym c.is_sign.ensures.is ∙ c.if-not-is_sign.false) c.in_err-one.ensures)
 
 pub loop-count-preserved : goal.loop-count-preserved
 loop-count-preserved c =
     rw c.in_ok-push.ensures.items (commas_turn (λ x. x) (kinds c.args.tokens.now) (arg_at (kinds c.args.tokens.now))
-        (length c.args.tokens.now) c.loop-count.count c.loop-count.next c.loop-count.all.items _ c.loop-count.invariant c.in_ok-one.one
-        c.in_ok-one.after c.loop-count-test.true (sym c.is_sign.ensures.is ∙ c.if-not-is_sign.false) c.in_ok-one.ensures)
+    (length c.args.tokens.now) c.loop-count.count c.loop-count.next c.loop-count.all.items _ c.loop-count.invariant c.in_ok-one.one
+    c.in_ok-one.after c.loop-count-test.true (sym c.is_sign.ensures.is ∙ c.if-not-is_sign.false) c.in_ok-one.ensures)
 
 pub returns : goal.returns
 returns c = rw length-map (commas_over (λ x. x) (kinds c.args.tokens.now) (arg_at (kinds c.args.tokens.now)) (length c.args.tokens.now)

@@ -7,4 +7,4 @@ use Rattle.c_reader.proofs.loop_args.read_args.Given as goal
 abbrev pub invariant-loop-count : goal.invariant-loop-count
 invariant-loop-count l =
     behind_commas (kinds l.tokens) (arg_at (kinds l.tokens)) (length l.tokens) l.at ≡ with_front (map (λ x. x) l.all.items)
-        (behind_commas (kinds l.tokens) (arg_at (kinds l.tokens)) (length l.tokens - l.count) l.next)
+    (behind_commas (kinds l.tokens) (arg_at (kinds l.tokens)) (length l.tokens - l.count) l.next)

@@ -12,7 +12,7 @@ returns-in-Err-clause-only c =
 pub returns-in-Err-clause-deep : goal.returns-in-Err-clause-deep
 returns-in-Err-clause-deep c =
     λ p n h. subst (λ z. IsRefusal (TooDeep (place_at p.places c.args.bytes.now n)) (Err z)) (sym c.unlexed.ensures)
-        (unlexed_deep c.args.bytes.now c.in-Err.refusal (TooDeep (place_at p.places c.args.bytes.now n)) c.in-Err.ensures.only p n h)
+    (unlexed_deep c.args.bytes.now c.in-Err.refusal (TooDeep (place_at p.places c.args.bytes.now n)) c.in-Err.ensures.only p n h)
 
 pub returns-in-Err-clause-lexed : goal.returns-in-Err-clause-lexed
 returns-in-Err-clause-lexed c =

@@ -32,5 +32,5 @@ decreases-read_stmts l = 5 * l.depth + 1
 abbrev pub invariant-read_stmts-loop-count : goal.invariant-read_stmts-loop-count
 invariant-read_stmts-loop-count l =
     until (λ m. sign_is s.RightBrace (slice_get (kinds l.tokens) m)) (stmt_at (kinds l.tokens) l.depth) (length l.tokens) l.at ≡ with_front
-        (map stmt_of l.all.items) (until (λ m. sign_is s.RightBrace (slice_get (kinds l.tokens) m)) (stmt_at (kinds l.tokens) l.depth)
-        (length l.tokens - l.count) l.next)
+    (map stmt_of l.all.items) (until (λ m. sign_is s.RightBrace (slice_get (kinds l.tokens) m)) (stmt_at (kinds l.tokens) l.depth)
+    (length l.tokens - l.count) l.next)

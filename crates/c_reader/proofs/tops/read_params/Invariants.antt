@@ -8,4 +8,4 @@ use Rattle.c_reader.proofs.tops.read_params.Given as goal
 abbrev pub invariant-loop-count : goal.invariant-loop-count
 invariant-loop-count l =
     separated (kinds l.tokens) (param_at (kinds l.tokens)) s.RightParen (length l.tokens) l.at ≡ with_front (map (λ x. x) l.all.items)
-        (separated (kinds l.tokens) (param_at (kinds l.tokens)) s.RightParen (length l.tokens - l.count) l.next)
+    (separated (kinds l.tokens) (param_at (kinds l.tokens)) s.RightParen (length l.tokens - l.count) l.next)

@@ -34,6 +34,6 @@ returns-clause-has c = λ e r l.
     c.in_ok-executing.ensures.has e r le
     ∙ (ap (λ z. executes_for b o r (pairs_of z r) (site_at b c.args.site) e) c.deref.ensures.value
     ∙ (executes_same b c.is_in_range.ensures (pairs_of c.in_ok-needs.needs.items r) (needs b o (c.args.item + 1) r)
-        (λ d y ld ly. c.in_ok-needs.ensures.has d y r ld ly) o r (site_at b c.args.site) e fits le
+    (λ d y ld ly. c.in_ok-needs.ensures.has d y r ld ly) o r (site_at b c.args.site) e fits le
     ∙ (ap (λ z. executes_for b o r (needs b o z r) (site_at b c.args.site) e) next
     ∙ ap (λ z. executes_for b o r (needs b o (suc c.args.item) r) z e) (sym same))))

@@ -29,12 +29,12 @@ returns-clause-needs c =
       count = length-set c.args.needs.now c.args.dat (with_items (get_or c.args.needs.now c.args.dat c.index-needs-dat.result) c.read_all.new.sets) ∙ c.requires.needs.count;
       lengths = λ d m. ⊎_elim
           (λ (q : d ≡ c.args.dat). rw q (ap (length {A = RankSet})
-              (put_back c.args.needs.now c.args.dat (get_or c.args.needs.now c.args.dat c.index-needs-dat.result) c.read_all.new.sets l n)
-              ∙ omega (arith, c.read_all.auto.sets, e)))
+          (put_back c.args.needs.now c.args.dat (get_or c.args.needs.now c.args.dat c.index-needs-dat.result) c.read_all.new.sets l n)
+          ∙ omega (arith, c.read_all.auto.sets, e)))
           (λ (q : d ≢ c.args.dat). ap (length {A = RankSet})
-              (sets_set_other c.args.needs.now c.args.dat d
-              (with_items (get_or c.args.needs.now c.args.dat c.index-needs-dat.result) c.read_all.new.sets) q)
-              ∙ c.requires.needs.lengths d m)
+          (sets_set_other c.args.needs.now c.args.dat d
+          (with_items (get_or c.args.needs.now c.args.dat c.index-needs-dat.result) c.read_all.new.sets) q)
+          ∙ c.requires.needs.lengths d m)
           (cases_eq d c.args.dat);
     }
 
@@ -46,7 +46,7 @@ returns-clause-here c = λ y r.
     ap (λ (z : List RankSet). has_at z y r) (put_back c.args.needs.now c.args.dat (get_or c.args.needs.now c.args.dat c.index-needs-dat.result) c.read_all.new.sets l n)
     ∙ (c.read_all.ensures y r
     ∙ ap (λ (z : List RankSet). has_at z y r || any_below (set_size b.mesh (site_at b c.args.site).set)
-        (λ e. has_at c.args.executing.now e r && list_any (reads_pair b c.args.dat y e) (site_at b c.args.site).args))
+    (λ e. has_at c.args.executing.now e r && list_any (reads_pair b c.args.dat y e) (site_at b c.args.site).args))
     (c.deref_mut.ensures.value ∙ sets_at c.args.needs.now c.args.dat c.index-needs-dat.result l))
 
 pub returns-clause-others : goal.returns-clause-others

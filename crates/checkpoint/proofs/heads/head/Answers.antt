@@ -12,7 +12,7 @@ returns c =
     let b = bound_of c.args.bound in
     let now : map item_of c.say_state.new.trace.items ≡ (cut.head b c.args.item).trace =
     head-made b c.args.item c.args.bound.trace.items c.truncate.new.self.items c.say_state.new.trace.items refl c.truncate.ensures.items
-        (c.in_ok-say_state.ensures b refl (ap (map var_of) (sym c.deref.ensures.value))) in
+    (c.in_ok-say_state.ensures b refl (ap (map var_of) (sym c.deref.ensures.value))) in
     let is : record b { trace = map item_of c.say_state.new.trace.items } ≡ cut.head b c.args.item = ap (λ t. record b { trace = t }) now in
     let can : CanCut b c.args.item = search rules in
     let few : length c.say_state.new.trace.items < 2 ^ 32 = search rules in

@@ -23,11 +23,11 @@ returns-then-blocks c =
     let table = c.in_ok-table.table.items in
     let t = subst (λ (z : List ℕ). IsTable g r.maps.items args z places table) c.deref.ensures.value c.in_ok-table.ensures.table in
     let within = λ (p a : ℕ) (x : IncArg) (lp : p < places) (la : a < length args). target_within g r is (get_or args a x) p k.set
-        (c.is_in_range.ensures.dats (get_or args a x).dat (k.each a x la).dat).set (k.each a x la)
-        (let e : places ≤ executed_in r.sets.items k.set = k.executed (omega arith) in omega arith) in
+    (c.is_in_range.ensures.dats (get_or args a x).dat (k.each a x la).dat).set (k.each a x la)
+    (let e : places ≤ executed_in r.sets.items k.set = k.executed (omega arith) in omega arith) in
     found_blocks g r.maps.items args places c.in_ok-starts.total (copies_of g r.sets.items) c.in_ok-starts.starts.items table
-        c.in_ok-starts.ensures t within c.args.size c.args.colours.now.blocks.items c.in_ok-blocks.blocks c.deref-2.result.now
-        c.deref-3.result.now c.deref-2.ensures.value c.deref-3.ensures.value c.in_ok-blocks.ensures c.if-blocks.true
+    c.in_ok-starts.ensures t within c.args.size c.args.colours.now.blocks.items c.in_ok-blocks.blocks c.deref-2.result.now
+    c.deref-3.result.now c.deref-2.ensures.value c.deref-3.ensures.value c.in_ok-blocks.ensures c.if-blocks.true
 
 pub returns-then-inner : goal.returns-then-inner
 returns-then-inner c =
@@ -40,8 +40,8 @@ returns-then-inner c =
     let table = c.in_ok-table.table.items in
     let t = subst (λ (z : List ℕ). IsTable g r.maps.items args z places table) c.deref.ensures.value c.in_ok-table.ensures.table in
     let within = λ (p a : ℕ) (x : IncArg) (lp : p < places) (la : a < length args). target_within g r is (get_or args a x) p k.set
-        (c.is_in_range.ensures.dats (get_or args a x).dat (k.each a x la).dat).set (k.each a x la)
-        (let e : places ≤ executed_in r.sets.items k.set = k.executed (omega arith) in omega arith) in (
+    (c.is_in_range.ensures.dats (get_or args a x).dat (k.each a x la).dat).set (k.each a x la)
+    (let e : places ≤ executed_in r.sets.items k.set = k.executed (omega arith) in omega arith) in (
       no_blocks g r.maps.items args places c.in_ok-starts.total (copies_of g r.sets.items) c.in_ok-starts.starts.items table
           c.in_ok-starts.ensures t within c.args.size c.args.colours.now.blocks.items c.in_ok-blocks.blocks c.deref-2.result.now
           c.deref-3.result.now c.deref-2.ensures.value c.deref-3.ensures.value c.in_ok-blocks.ensures c.if-blocks.false,
@@ -61,8 +61,8 @@ returns c =
     let table = c.in_ok-table.table.items in
     let t = subst (λ (z : List ℕ). IsTable g r.maps.items args z places table) c.deref.ensures.value c.in_ok-table.ensures.table in
     let within = λ (p a : ℕ) (x : IncArg) (lp : p < places) (la : a < length args). target_within g r is (get_or args a x) p k.set
-        (c.is_in_range.ensures.dats (get_or args a x).dat (k.each a x la).dat).set (k.each a x la)
-        (let e : places ≤ executed_in r.sets.items k.set = k.executed (omega arith) in omega arith) in (
+    (c.is_in_range.ensures.dats (get_or args a x).dat (k.each a x la).dat).set (k.each a x la)
+    (let e : places ≤ executed_in r.sets.items k.set = k.executed (omega arith) in omega arith) in (
       no_blocks g r.maps.items args places c.in_ok-starts.total (copies_of g r.sets.items) c.in_ok-starts.starts.items table
           c.in_ok-starts.ensures t within c.args.size c.args.colours.now.blocks.items c.in_ok-blocks.blocks c.deref-2.result.now
           c.deref-3.result.now c.deref-2.ensures.value c.deref-3.ensures.value c.in_ok-blocks.ensures c.if-blocks.false,

@@ -63,8 +63,8 @@ returns c = (
   λ h. absurd (none_alike_all c.args.table.now c.args.colours.now c.args.width c.args.size (c.loop-block.block * c.args.size) c.args.places c.requires.count
       (⊎_elim
       (λ (m : c.loop-block.block * c.args.size < c.args.places). absurd
-          (let e : c.count-block-end.result ≤ c.loop-block.block = c.loop-block-test.false in
-          let n : c.loop-block.block < c.count-block-end.result = (c.count-block-end.ensures c.loop-block.block).1 m in omega arith))
+      (let e : c.count-block-end.result ≤ c.loop-block.block = c.loop-block-test.false in
+      let n : c.loop-block.block < c.count-block-end.result = (c.count-block-end.ensures c.loop-block.block).1 m in omega arith))
       (λ (m : c.args.places ≤ c.loop-block.block * c.args.size). m)
       (cases_lt (c.loop-block.block * c.args.size) c.args.places))
       c.loop-block.invariant.apart h),

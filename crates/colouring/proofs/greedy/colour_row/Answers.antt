@@ -13,7 +13,7 @@ returns-clause-least c =
     let ts = c.args.targets.now in
     let first = row_bounds ts c.args.width c.args.row c.min-start.result c.min-end.result c.min-start.ensures c.min-end.ensures in
     row_least ts c.args.width c.args.colours.now c.args.row c.requires.row c.args.masks.now c.requires.told c.min-start.result
-        c.min-end.result first c.requires.targets c.in_ok-colour.colour c.in_ok-colour.ensures.below c.in_ok-colour.ensures.free
+    c.min-end.result first c.requires.targets c.in_ok-colour.colour c.in_ok-colour.ensures.below c.in_ok-colour.ensures.free
 
 pub returns-clause-told : goal.returns-clause-told
 returns-clause-told c =
@@ -23,7 +23,7 @@ returns-clause-told c =
     let k = c.in_ok-colour.ensures.kept in
     let first = row_bounds ts c.args.width c.args.row c.min-start.result c.min-end.result c.min-start.ensures c.min-end.ensures in
     row_told ts c.args.width c.args.colours.now c.args.row c.requires.row m c.requires.told c.min-start.result c.min-end.result first
-        c.requires.targets c.in_ok-colour.colour c.in_ok-colour.ensures.below c.in_ok-colour.ensures.free
+    c.requires.targets c.in_ok-colour.colour c.in_ok-colour.ensures.below c.in_ok-colour.ensures.free
     c.add.new.self (c.in_ok-add.ensures.length ∙ ap (λ v. length v.items) k.0)
     (added_kept m n c.add.new.self (λ t v b. (32 * v + b ≡ c.in_ok-colour.colour) × ((x : ℕ) × (c.min-start.result ≤ x) × (x < c.min-end.result) × (get_or ts x 0 ≡ t))) k c.in_ok-add.ensures.added)
 

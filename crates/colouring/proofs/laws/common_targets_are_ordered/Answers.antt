@@ -14,5 +14,5 @@ returns c = λ o p r m args places size d t k place some perms is a cs shown x y
     (λ l. inl (by_outline t k r place size d shown e f ∙ l))
     (λ l. inr (by_outline t k r place size d shown f e ∙ l))
     (places_are_ordered g m.maps.items args places size d some cs (place e) (place f) le lf apart
-        (reached_conflict c.originals_are_distinct.ensures g o p r m perms c.is_in_range.ensures.dats is args places a x y (place e)
-        (place f) cx cy s le lf meet))
+    (reached_conflict c.originals_are_distinct.ensures g o p r m perms c.is_in_range.ensures.dats is args places a x y (place e)
+    (place f) cx cy s le lf meet))

@@ -13,7 +13,7 @@ pub is_met-requires-clause-mark : goal.is_met-requires-clause-mark
 is_met-requires-clause-mark c =
     let within : get_or c.args.targets.now c.loop-k.k 0 < length c.args.marks.now = c.requires.targets c.loop-k.k (omega arith) in
     mark_of_row c.args.targets.now c.min-start.result c.loop-k.k c.args.row (get_or c.args.targets.now c.loop-k.k 0)
-        (length c.args.colours.now) c.args.marks.now c.loop-k.marks within c.requires.row c.requires.marks c.loop-k.invariant.marks
+    (length c.args.colours.now) c.args.marks.now c.loop-k.marks within c.requires.row c.requires.marks c.loop-k.invariant.marks
 
 pub returns-then-is_met-clause-found : goal.returns-then-is_met-clause-found
 returns-then-is_met-clause-found c = λ _.
@@ -39,7 +39,7 @@ pub returns-clause-clear : goal.returns-clause-clear
 returns-clause-clear c = λ _ t h.
     let e : c.min-end.result ≡ c.loop-k.k = (let a = c.min-start.ensures in let b = c.min-end.ensures in let f = c.loop-k.auto.k-end (omega arith) in let g = c.loop-k-test.false in omega arith) in
     c.loop-k.invariant.clear t (subst (λ z. Seen c.args.targets.now c.min-start.result z t) e
-        (has_seen c.args.targets.now c.args.width c.args.row c.min-start.result c.min-end.result t c.min-start.ensures c.min-end.ensures h))
+    (has_seen c.args.targets.now c.args.width c.args.row c.min-start.result c.min-end.result t c.min-start.ensures c.min-end.ensures h))
 
 pub returns-clause-marks : goal.returns-clause-marks
 returns-clause-marks c = λ _.

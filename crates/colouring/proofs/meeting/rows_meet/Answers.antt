@@ -6,7 +6,7 @@ pub returns-then-row_meets-clause-found : goal.returns-then-row_meets-clause-fou
 returns-then-row_meets-clause-found c = λ _.
     let x = c.row_meets.ensures.found c.if-row_meets.true in
     found c.args.targets.now c.args.width c.args.colours.now c.args.order.now c.args.first c.requires.few c.requires.rows c.requires.sorted
-        c.loop-row.row-index c.loop-row-test.true c.loop-row.marks c.loop-row.invariant.marked
+    c.loop-row.row-index c.loop-row-test.true c.loop-row.marks c.loop-row.invariant.marked
     (λ k l. (let w = c.requires.targets k l in omega arith)) x.0 x.1 x.2
 
 pub loop-row-preserved : goal.loop-row-preserved

@@ -20,7 +20,7 @@ loop-a-preserved c =
     let v = get_or c.reserve.new.bases dat 0 in
     let ls : dat_set g dat < length sets = rw c.requires.rank.sets_count (c.is_in_range.ensures.dats dat (c.requires.args a none_there la)).set in
     let copies = read_copies sets c.dat_shape-set.result.0 (dat_set g dat) c.index.result.now c.as_slice-copies.result.now
-        (ap (λ z. z.0) c.dat_shape-set.ensures) ls c.index.ensures c.as_slice-copies.ensures in
+    (ap (λ z. z.0) c.dat_shape-set.ensures) ls c.index.ensures c.as_slice-copies.ensures in
     rw c.in_ok-push.ensures.items (record {
       count = omega (arith, length_push c.loop-a.starts.items v, c.loop-a.invariant.count);
       bases = c.in_ok-total.ensures.bases (copies_of g sets) (ap (λ (z : List ℕ). length z) (sym copies)) c.loop-a.invariant.bases;

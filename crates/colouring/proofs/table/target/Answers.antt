@@ -38,13 +38,13 @@ module _ (g : MeshValue) (r : RankMesh) (is : IsRankOf g r) (x : IncArg) (p : �
       let l : Leads g arg.0 (dat_set g x.dat) (Some via) = leads in
       let o : length (originals_in r.sets.items (map_to g via.map)) ≡ length (originals_in r.sets.items (dat_set g x.dat)) = ap (λ z. length (originals_in r.sets.items z)) l.3 in
       let w : get_or (row r.maps.items via.map) (p * map_dim g via.map + via.index) 0 < length
-          (originals_in r.sets.items (map_to g via.map)) = (is.maps via.map l.0).within p via.index (rw l.2 arg.2) l.1 in
+      (originals_in r.sets.items (map_to g via.map)) = (is.maps via.map l.0).within p via.index (rw l.2 arg.2) l.1 in
       omega (arith, entry y h, o, w)
 
 pub index-requires-in-Some : goal.index-requires-in-Some
 index-requires-in-Some c =
     let i = inside c.args.mesh.now c.args.rank.now c.requires.rank c.args.arg.now c.args.place c.requires.arg c.in-Some.via c.in-Some.is
-        c.index.result.now c.index.ensures c.map_ends-dim.result.2 (ap (λ z. z.2) c.map_ends-dim.ensures) in
+    c.index.result.now c.index.ensures c.map_ends-dim.result.2 (ap (λ z. z.2) c.map_ends-dim.ensures) in
     omega (arith, i, c.index.result.now.ok)
 
 pub returns-in-Some-clause-value : goal.returns-in-Some-clause-value

@@ -12,6 +12,8 @@ colour_rows-requires-clause-small c = steps_fit (length c.args.colours.now) c.ar
     c.min.ensures (λ b l. (c.requires.count b).0 l) (omega (arith, c.requires.table, c.requires.few))
 
 pub returns : goal.returns
-returns c = record { least = blocks_least c.args.table.now c.args.width c.args.size c.args.places c.min.result c.min.ensures
-    c.requires.table (length c.args.colours.now) c.colour_rows.new.colours (λ b l. (c.requires.count b).0 l)
-    c.in_ok-colour_rows.ensures.least }
+returns c = record {
+  least = blocks_least c.args.table.now c.args.width c.args.size c.args.places c.min.result c.min.ensures
+      c.requires.table (length c.args.colours.now) c.colour_rows.new.colours (λ b l. (c.requires.count b).0 l)
+      c.in_ok-colour_rows.ensures.least;
+}

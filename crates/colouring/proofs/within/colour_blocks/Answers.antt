@@ -22,7 +22,7 @@ loop-block-preserved c =
 pub returns-clause-least : goal.returns-clause-least
 returns-clause-least c = λ p l. c.loop-block.invariant.least p (⊎_elim
     (λ (m : c.loop-block.block * c.args.size < c.args.places). absurd
-        (let e : c.count-block-end.result ≤ c.loop-block.block = c.loop-block-test.false in
-        let n : c.loop-block.block < c.count-block-end.result = (c.count-block-end.ensures c.loop-block.block).1 m in omega arith))
+    (let e : c.count-block-end.result ≤ c.loop-block.block = c.loop-block-test.false in
+    let n : c.loop-block.block < c.count-block-end.result = (c.count-block-end.ensures c.loop-block.block).1 m in omega arith))
     (λ (m : c.args.places ≤ c.loop-block.block * c.args.size). omega arith)
     (cases_lt (c.loop-block.block * c.args.size) c.args.places)) l

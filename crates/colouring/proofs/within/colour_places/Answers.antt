@@ -14,15 +14,18 @@ returns-clause-least c =
     let fits : last * w ≤ length table = rw c.requires.table (mul-le-mul_right w c.requires.last) in
     let starts : first * w ≤ last * w = mul-le-mul_right w c.requires.first in
     let size : length c.colour_rows.new.colours ≡ last - first = c.colour_rows.auto.colours
-        ∙ mid_length first (last - first) c.args.inner.now
-        (let l : first ≤ last = c.requires.first in let m : last ≤ length c.args.inner.now = c.requires.last in omega arith) in
+    ∙ mid_length first (last - first) c.args.inner.now
+    (let l : first ≤ last = c.requires.first in let m : last ≤ length c.args.inner.now = c.requires.last in omega arith) in
     let long : length here ≡ last * w - first * w = mid_length (first * w) (last * w - first * w) table (omega arith) in
     part_least table here w first last long (λ k l. get_or-take (last * w - first * w) (drop (first * w) table) k 0 (omega arith) ∙ get_or-drop (first * w) table k 0) fits c.colour_rows.new.colours _
     (λ r l. in_mid first (last - first) c.args.inner.now c.colour_rows.new.colours r
-        (let a : first ≤ last = c.requires.first in let m : last ≤ length c.args.inner.now = c.requires.last in omega arith) size l)
+    (let a : first ≤ last = c.requires.first in let m : last ≤ length c.args.inner.now = c.requires.last in omega arith) size l)
     (λ r l. c.in_ok-colour_rows.ensures.least r
-        (omega (arith, mid_length first (last - first) c.args.inner.now
-        (let a : first ≤ last = c.requires.first in let m : last ≤ length c.args.inner.now = c.requires.last in omega arith))))
+    (omega (
+      arith,
+      mid_length first (last - first) c.args.inner.now
+          (let a : first ≤ last = c.requires.first in let m : last ≤ length c.args.inner.now = c.requires.last in omega arith),
+    )))
 
 pub returns-clause-others : goal.returns-clause-others
 returns-clause-others c =

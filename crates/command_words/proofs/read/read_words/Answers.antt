@@ -10,6 +10,6 @@ returns-in-Ok c =
 pub returns-in-Err : goal.returns-in-Err
 returns-in-Err c =
     let r = refused_reads c.options_are_within.ensures (map string_bytes c.args.words.now.items) c.in-Err.error c.refused.result
-        (c.one_fault.ensures (map string_bytes c.args.words.now.items)) c.in-Err.ensures.err c.refused.ensures.kind c.refused.ensures.memory
-        in
+    (c.one_fault.ensures (map string_bytes c.args.words.now.items)) c.in-Err.ensures.err c.refused.ensures.kind c.refused.ensures.memory
+    in
     record { ok = r.ok; in_range = r.in_range; only = r.only; refused = r.refused; refuses = r.refuses }

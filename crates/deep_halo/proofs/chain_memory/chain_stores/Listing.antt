@@ -75,8 +75,8 @@ module _ (b : BoundValue) (o : Owners) where
       let p = and_parts (nat_eq m n) (nat_eq c.dat d && nat_eq c.element e) h in
       let q = and_parts (nat_eq c.dat d) (nat_eq c.element e) p.1 in
       let same : cell_in (Element d e) c.component ≡ Data c =
-          ap₂ (λ x y. Data (record { dat = x; element = y; component = c.component })) (sym (eqb-true c.dat d q.0))
-          (sym (eqb-true c.element e q.1)) in
+      ap₂ (λ x y. Data (record { dat = x; element = y; component = c.component })) (sym (eqb-true c.dat d q.0))
+      (sym (eqb-true c.element e q.1)) in
       ap (λ z. cond (nat_eq m n && (nat_eq c.dat d && nat_eq c.element e)) z v)
       (kept_at n d ys f (cell_in (Element d e) c.component) apart ∙ ap (λ x. f (own x) x) same))
       (λ (h : (nat_eq m n && (nat_eq c.dat d && nat_eq c.element e)) ≡ false).

@@ -1,5 +1,5 @@
 -- Pairs come from the last block to their owners', element by element and dat by dat; and the memory that begins with zeros.
-use Rattle.std.proofs.Common.{◌≡◌, ◌≢◌, ◌<◌, ◌≤◌, ◌+◌, ◌-◌, ◌*◌, ⊎_elim, ℕ, suc, ℤ, pos, Bool, true, false, cond, ◌&&◌, ◌||◌, nat_eq, nat_lt, List, ◌++◌, None, replicate, length, get_or, refl, sym, ap, ap₂, subst, ◌∙◌, arith}
+use Rattle.std.proofs.Common.{◌≡◌, ◌≢◌, ◌<◌, ◌≤◌, ◌+◌, ◌-◌, ◌*◌, ⊎_elim, ℕ, suc, ℤ, pos, Bool, true, false, cond, ◌&&◌, nat_eq, nat_lt, List, ◌++◌, None, replicate, length, get_or, refl, sym, ap, ap₂, subst, ◌∙◌, arith}
 use Rattle.std.proofs.lemmas.Bool.{and_parts, eq-eqb, eqb-true, ne_eqb, cases_eq, cases_lt, lt-ltb, le-ltb}
 use Rattle.std.proofs.lemmas.List.{length-append, length-replicate, get_or-replicate, get_or_append_left, get_or-append_right}
 use Rattle.std.proofs.Math.Nat.{mul_comm, mul-le-mul_right, suc-mul}
@@ -37,8 +37,8 @@ module _ (b : BoundValue) (o : Owners) where
       (λ (h : (nat_eq c.dat d && nat_eq c.element e) ≡ true).
       let q = and_parts (nat_eq c.dat d) (nat_eq c.element e) h in
       let same : cell_in (Element d e) c.component ≡ Data c =
-          ap₂ (λ x y. Data (record { dat = x; element = y; component = c.component })) (sym (eqb-true c.dat d q.0))
-          (sym (eqb-true c.element e q.1)) in
+      ap₂ (λ x y. Data (record { dat = x; element = y; component = c.component })) (sym (eqb-true c.dat d q.0))
+      (sym (eqb-true c.element e q.1)) in
       ap₂ (λ k z. cond (nat_eq m k && (nat_eq c.dat d && nat_eq c.element e)) z v) (ap own same)
       (last_stays test f (record { dat = d; element = e; component = c.component }) lt ∙ ap (f o.ranks) same))
       (λ (h : (nat_eq c.dat d && nat_eq c.element e) ≡ false).
@@ -51,7 +51,7 @@ module _ (b : BoundValue) (o : Owners) where
   pub elements_none : (d : ℕ) (f : Values) (m : ℕ) (c : Cell) → f m c ≡ taken_by_owners b o (is_below d 0) f m c
   elements_none d f m (Data c) =
       sym (ap (λ t. cond (nat_eq m (own (Data c)) && t) (f o.ranks (Data c)) (f m (Data c))) (and_no (nat_eq c.dat d) ∙ refl)
-          ∙ cond_never (nat_eq m (own (Data c))) (f o.ranks (Data c)) (f m (Data c)))
+      ∙ cond_never (nat_eq m (own (Data c))) (f o.ranks (Data c)) (f m (Data c)))
     where
       and_no : (a : Bool) → (a && nat_lt c.element 0) ≡ false
       and_no true = le-ltb c.element 0 (omega arith)
@@ -63,8 +63,8 @@ module _ (b : BoundValue) (o : Owners) where
       ≡ taken_by_owners b o (is_below d (n + 1)) f m c
   elements_more d n to f at lt m (Data c) =
       ap (λ k. cond (nat_eq m k && (nat_eq c.dat d && nat_eq c.element n))
-          (taken_by_owners b o (is_below d n) f o.ranks (cell_in (Element d n) c.component))
-          (taken_by_owners b o (is_below d n) f m (Data c))) at
+      (taken_by_owners b o (is_below d n) f o.ranks (cell_in (Element d n) c.component))
+      (taken_by_owners b o (is_below d n) f m (Data c))) at
       ∙ own_value (is_below d n) f m d n c (taken_by_owners b o (is_below d n) f m (Data c)) (subst (λ k. k < o.ranks) at lt)
       ∙ more (nat_eq m (own (Data c))) (nat_eq c.dat d) (nat_lt c.element n) (nat_eq c.element n) (f o.ranks (Data c)) (f m (Data c))
       ∙ ap (λ t. cond (nat_eq m (own (Data c)) && (nat_eq c.dat d && t)) (f o.ranks (Data c)) (f m (Data c))) (sym (lt_next c.element n))
@@ -90,8 +90,8 @@ module _ (b : BoundValue) (o : Owners) where
       there : c.element < set_size b.mesh (dat_set b.mesh c.dat) → (nat_eq c.dat d && nat_lt c.element (set_size b.mesh (dat_set b.mesh d))) ≡ nat_eq c.dat d
       there lt = ⊎_elim
           (λ (e : c.dat ≡ d). ap₂ (λ s t. s && t) (eq-eqb c.dat d e)
-              (lt-ltb c.element (set_size b.mesh (dat_set b.mesh d)) (subst (λ k. c.element < set_size b.mesh (dat_set b.mesh k)) e lt))
-              ∙ sym (eq-eqb c.dat d e))
+          (lt-ltb c.element (set_size b.mesh (dat_set b.mesh d)) (subst (λ k. c.element < set_size b.mesh (dat_set b.mesh k)) e lt))
+          ∙ sym (eq-eqb c.dat d e))
           (λ (e : c.dat ≢ d). ap (λ s. s && nat_lt c.element (set_size b.mesh (dat_set b.mesh d))) (ne_eqb c.dat d e) ∙ sym (ne_eqb c.dat d e))
           (cases_eq c.dat d)
   dats_more ranges owners d f m (Variable v) h = refl

@@ -96,8 +96,8 @@ module _ (ch : Change) (plain : (z : ℤ) (m : ℕ) (c : Cell) → ch None z m c
           ∙ ap₂ (λ x y. ch (reduced_by all n.variable) (g x y) x y) (sym em) cell
           ∙ once ev
           ∙ sym (ap later (ap₂ (λ x y. x && y) q.0
-              (any_taken (is_on n.variable) all i (Global v a) lt is ∙ ap (λ t. list_any (is_on n.variable) (take i all) || t) q.1
-              ∙ or_true (list_any (is_on n.variable) (take i all)))))
+          (any_taken (is_on n.variable) all i (Global v a) lt is ∙ ap (λ t. list_any (is_on n.variable) (take i all) || t) q.1
+          ∙ or_true (list_any (is_on n.variable) (take i all)))))
 
       drop_it : (x l y : Bool) → (x && y) ≡ false → (x && (l || y)) ≡ (x && l)
       drop_it false l y e = refl

@@ -59,10 +59,10 @@ amounts_merged b ranks r v a o old new memory f p at from count lr lv how holds 
     ap (λ k. get_or new (k + i) (pos 0)) (sym e) ∙ there i li
     ∙ ap₂ (λ x y. merged o x y)
     (ap (λ k. get_or old k (pos 0)) (ap (λ k. k + i) e ∙ sym (block_follow (of_vars b.vars) r (Whole v) i))
-        ∙ parts.cells r (cell_in (Whole v) i) (omega arith) (has_of (of_vars b.vars) (Whole v) i lv lt))
+    ∙ parts.cells r (cell_in (Whole v) i) (omega arith) (has_of (of_vars b.vars) (Whole v) i lv lt))
     (ap (λ k. get_or memory k (pos 0)) (ap (λ k. k + i) g ∙ sym (block_follow b r (Whole v) i)) ∙ holds.cells r (cell_in (Whole v) i) (omega arith) (has_of b (Whole v) i lv lt))
     ∙ sym (ap (λ t. merge_at t (p r (cell_in (Whole v) i)) (f r (cell_in (Whole v) i))) how))
     (λ k l. others k (subst (λ j. (k < j) ⊎ (j + count ≤ k)) (sym e)
-        (subst (λ j. (k < in_block (of_vars b.vars) r (cell_in (Whole v) 0)) ⊎ (in_block (of_vars b.vars) r (cell_in (Whole v) 0) + j ≤ k))
-        (sym w) l)))
+    (subst (λ j. (k < in_block (of_vars b.vars) r (cell_in (Whole v) 0)) ⊎ (in_block (of_vars b.vars) r (cell_in (Whole v) 0) + j ≤ k))
+    (sym w) l)))
     parts

@@ -1,5 +1,5 @@
 -- What kernels are given of variables, argument by argument.
-use Rattle.std.proofs.Common.{◌≡◌, ◌≢◌, ◌<◌, ◌+◌, ◌⊎◌, inl, inr, ⊎_elim, ℕ, ℤ, Bool, true, false, cond, ◌&&◌, ◌||◌, nat_eq, List, [], ◌∷◌, ◌++◌, take, length, get_or, Option, Some, None, refl, sym, ap, ap₂, ◌∙◌, w32, to_z, of_z}
+use Rattle.std.proofs.Common.{◌≡◌, ◌≢◌, ◌<◌, ◌+◌, ◌⊎◌, inl, inr, ⊎_elim, ℕ, Bool, true, false, cond, ◌&&◌, ◌||◌, nat_eq, List, [], ◌∷◌, ◌++◌, take, length, get_or, Option, Some, None, refl, sym, ap, ap₂, ◌∙◌, w32, to_z, of_z}
 use Rattle.std.specs.List.{list_any}
 use Rattle.std.proofs.lemmas.Bool.{and_parts, eqb-true, ne_eqb}
 use Rattle.std.proofs.lemmas.List.{take_more}
@@ -87,8 +87,8 @@ globals_more ranks r all f i other apart lt m c = by (get_or all i no_arg) refl 
 
         value : (x : VarCell)
             → cond (nat_eq m r && nat_eq x.variable v)
-                (window_of (reduction_of a) (with_globals ranks r all (take i all) f ranks (cell_in (Whole v) x.component)))
-                (with_globals ranks r all (take i all) f m (Variable x))
+            (window_of (reduction_of a) (with_globals ranks r all (take i all) f ranks (cell_in (Whole v) x.component)))
+            (with_globals ranks r all (take i all) f m (Variable x))
             ≡ cond (nat_eq m r && nat_eq x.variable v) (window_of (reduced_by all x.variable) (f ranks (Variable x))) (with_globals ranks r all (take i all) f m (Variable x))
         value x = ⊎_elim
             (λ (h : (nat_eq m r && nat_eq x.variable v) ≡ true).

@@ -71,7 +71,7 @@ returns c =
     let plain = not_print c.args.act.now c.deref.result.now c.deref.ensures c.in_default.not-Print in
     IfOk-weaker c.run_act.result
     (λ r. (s : Store) → Holds (of_vars (map var_of c.deref-2.result.now)) tail s
-        → ActEnds (of_vars (map var_of c.deref-2.result.now)) cells s said says r (act_run (of_vars (map var_of c.deref-2.result.now)) s a))
+    → ActEnds (of_vars (map var_of c.deref-2.result.now)) cells s said says r (act_run (of_vars (map var_of c.deref-2.result.now)) s a))
     (λ r. (s : Store) → OwnersStand b o old s → HostEnds b o old (put_mid first (length old - first) old cells) said says r (act_run b s a))
     (λ r ends s stand.
     host_ends b o first at old c.requires.memory cells s said says r (act_run b s a)

@@ -58,8 +58,8 @@ returns c = record {
       let runs1 : Runs b o j site mem1 parts1 now.fault st1 = started b o k j site mem1 parts1 now.fault st stand1 held1 count1 c.put_units.ensures units stands.kept in
       let runs1a : Runs b o j site c.deref_mut-3.result.now parts1 now.fault st1 = subst (λ (l : List ℤ). Runs b o j site l parts1 now.fault st1) (sym (c.deref_mut-3.ensures.value ∙ m1)) runs1 in
       let runs1b : Runs b o j site c.deref_mut-3.result.now c.deref_mut-4.result.now now.fault st1 =
-          subst (λ (l : List ℤ). Runs b o j site c.deref_mut-3.result.now l now.fault st1) (sym (c.deref_mut-4.ensures.value ∙ p1)) runs1a
-          in
+      subst (λ (l : List ℤ). Runs b o j site c.deref_mut-3.result.now l now.fault st1) (sym (c.deref_mut-4.ensures.value ∙ p1)) runs1a
+      in
       let runs2 : Runs b o j site mem2 parts2 c.run_ranks.new.fault st2 = c.run_ranks.ensures st1 consts runs1b in
       let under : IsUnderWay b o k s out st = record {
         others = λ r n v ne. units r n v;

@@ -51,7 +51,12 @@ returns c =
     let b = program_of_run c.args.program.now in
     let o = owners_of_run c.args.program.now in
     let count = length-map c.args.program.now.blocks.now.bound.now.trace.items item_of in
-    let last : c.loop-item.item ≡ length b.trace = omega
-        (arith, count, c.args.program.now.blocks.now.bound.now.trace.ok.0, c.loop-item-test.false, c.loop-item.auto.item-end,
-        c.len-item-end.ensures) in
+    let last : c.loop-item.item ≡ length b.trace = omega (
+      arith,
+      count,
+      c.args.program.now.blocks.now.bound.now.trace.ok.0,
+      c.loop-item-test.false,
+      c.loop-item.auto.item-end,
+      c.len-item-end.ensures,
+    ) in
     subst (λ n. Stands b o n c.loop-item.state (chain_items (slicing_of b o) n)) last c.loop-item.invariant

@@ -15,8 +15,8 @@ more c = elim c.if-is_some.branch [
       let k : ℕ = length w.as_slice.result.now in
       let n : w.in_ok-count.count ≡ c.loop-var.count + k = grind (arith, common_steps, w.checked_add.ensures, w.in_ok-count.ensures.value) in
       w.count-is ∙ n ∙ ap (λ z. c.loop-var.count + z)
-          (ap length w.as_slice.ensures ∙ sym
-          (cells_some c.var-item.result.constant (length c.var-item.result.start) (sym c.is_some.ensures ∙ w.if-is_some.true)))
+      (ap length w.as_slice.ensures ∙ sym
+      (cells_some c.var-item.result.constant (length c.var-item.result.start) (sym c.is_some.ensures ∙ w.if-is_some.true)))
   | else-is_some w ↦
       let z = cells_none c.var-item.result.constant (length c.var-item.result.start) (sym c.is_some.ensures ∙ w.if-is_some.false) in
       omega (arith, w.count-is, z)

@@ -12,7 +12,7 @@ pub loop-at-preserved : goal.loop-at-preserved
 loop-at-preserved c =
     c.loop-at.invariant
     ∙ at-more c.args.dim c.args.scale c.loop-at.all.items c.args.points.now c.loop-at.at c.index-points-at.result c.push_point.new.all.items
-        (omega arith) c.index-points-at.is c.in_ok-push_point.ensures
+    (omega arith) c.index-points-at.is c.in_ok-push_point.ensures
 
 pub returns : goal.returns
 returns c = c.loop-at.invariant ∙ at-end c.args.dim c.args.scale c.loop-at.all.items c.args.points.now c.loop-at.at (omega arith)

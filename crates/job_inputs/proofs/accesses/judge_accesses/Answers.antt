@@ -12,12 +12,14 @@ pub returns-in_err-judge_site-clause-err : goal.returns-in_err-judge_site-clause
 returns-in_err-judge_site-clause-err c =
     let p = err_from_is_err_and c.from_residual.result c.from_residual.ensures.1 in
     rw (p.1, p.2) (first_refused (bound_of c.args.bound.now) c.args.bound.now.sites.items refl c.loop-site.site-index c.site-item.result
-        (search rules) (search rules) c.in_err-judge_site.field-0.0 c.loop-site.invariant.1 c.in_err-judge_site.ensures.err)
+    (search rules) (search rules) c.in_err-judge_site.field-0.0 c.loop-site.invariant.1 c.in_err-judge_site.ensures.err)
 
 pub loop-site-preserved : goal.loop-site-preserved
-loop-site-preserved c =
-    (search rules, obey_next (bound_of c.args.bound.now) c.args.bound.now.sites.items c.loop-site.site-index c.site-item.result
-        (search rules) (search rules) c.loop-site.invariant.1 c.in_ok-judge_site.ensures.ok)
+loop-site-preserved c = (
+  search rules,
+  obey_next (bound_of c.args.bound.now) c.args.bound.now.sites.items c.loop-site.site-index c.site-item.result
+      (search rules) (search rules) c.loop-site.invariant.1 c.in_ok-judge_site.ensures.ok,
+)
 
 pub returns-clause-ok : goal.returns-clause-ok
 returns-clause-ok c = all_obey (bound_of c.args.bound.now) c.args.bound.now.sites.items c.loop-site.site-index (search rules) c.loop-site.invariant.1

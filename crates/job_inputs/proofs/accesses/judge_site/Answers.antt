@@ -27,7 +27,7 @@ returns-in-Ok-clause-ok c =
 pub returns-clause-err : goal.returns-clause-err
 returns-clause-err c =
     refuses (bound_of c.args.bound.now) (site_of c.args.site.now) c.requires.site c.index.result.now (search rules) c.deref-2.result.now
-        c.disobeyed.result (search rules) (c.disobeyed.ensures c.index.result.now _ c.in-Err.ensures.refused)
+    c.disobeyed.result (search rules) (c.disobeyed.ensures c.index.result.now _ c.in-Err.ensures.refused)
 
 pub returns-then-are_known-clause-ok : goal.returns-then-are_known-clause-ok
 returns-then-are_known-clause-ok c =
@@ -36,5 +36,5 @@ returns-then-are_known-clause-ok c =
 pub returns-in-Ok-clause-known : goal.returns-in-Ok-clause-known
 returns-in-Ok-clause-known c =
     noted (bound_of c.args.bound.now) (site_of c.args.site.now) c.requires.site c.index.result.now (search rules) c.deref-in-Ok.result.now
-        c.args.known.now.keys c.note_uses.new.known.keys (search rules) c.requires.known c.in_ok-note_uses-in-Ok.ensures
+    c.args.known.now.keys c.note_uses.new.known.keys (search rules) c.requires.known c.in_ok-note_uses-in-Ok.ensures
     (subst (λ (l : List code.Mode). KernelObeys c.index.result.now (map model_of l)) (search rules) c.in-Ok.ensures.accepted)

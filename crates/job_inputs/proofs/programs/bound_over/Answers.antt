@@ -13,14 +13,14 @@ pub returns-in_err-bound-clause-err : goal.returns-in_err-bound-clause-err
 returns-in_err-bound-clause-err c =
     let p = err_from_is_err_and c.from_residual-in_err-bound.result c.from_residual-in_err-bound.ensures.1 in
     rw (p.1, p.2) (bound_refused (program_of c.args.program.now) c.args.types c.args.text.now c.in_ok-entries.entries.entries
-        c.in_err-bound.field-0.0 c.in_ok-entries.ensures.ok c.in_err-bound.ensures.err)
+    c.in_err-bound.field-0.0 c.in_ok-entries.ensures.ok c.in_err-bound.ensures.err)
 
 pub returns-in_err-judge_accesses-clause-err : goal.returns-in_err-judge_accesses-clause-err
 returns-in_err-judge_accesses-clause-err c =
     let p = err_from_is_err_and c.from_residual-in_err-judge_accesses.result c.from_residual-in_err-judge_accesses.ensures.1 in
     rw (p.1, p.2) (accesses_refused (program_of c.args.program.now) c.args.types c.args.text.now c.in_ok-entries.entries.entries
-        (bound_of c.in_ok-bound.bound) c.in_err-judge_accesses.field-0.0 c.in_ok-entries.ensures.ok c.in_ok-bound.ensures.ok
-        c.in_err-judge_accesses.ensures.err)
+    (bound_of c.in_ok-bound.bound) c.in_err-judge_accesses.field-0.0 c.in_ok-entries.ensures.ok c.in_ok-bound.ensures.ok
+    c.in_err-judge_accesses.ensures.err)
 
 pub returns-clause-ok : goal.returns-clause-ok
 returns-clause-ok c =

@@ -1,5 +1,5 @@
 use Rattle.std.proofs.Common.{ap, sym, ◌∙◌, arith}
-use Rattle.lemmas.specs.Below.{count_below, listed}
+use Rattle.lemmas.specs.Below.{count_below}
 use Rattle.lemmas.proofs.Below.{length_listed, count_lt, listed_at, at_listed}
 use Rattle.lemmas.proofs.laws.numbers_are_listed.Goals as goal
 

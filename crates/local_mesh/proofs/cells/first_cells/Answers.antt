@@ -37,7 +37,7 @@ loop-dat-preserved c =
     let e = read c.args.sets.now c.dat_shape-set.result.0 (dat_set g d) c.index-sets-set.result c.as_slice-copies.result.now (ap (λ z. z.0) c.dat_shape-set.ensures) ls c.as_slice-copies.ensures in
     let q : c.dat_shape-set.result.1 ≡ dat_dim g d = ap (λ z. z.1) c.dat_shape-set.ensures in
     let w : length c.as_slice-copies.result.now * c.dat_shape-set.result.1 ≡ length (originals_in sets (dat_set g d)) * dat_dim g d =
-        ap (λ (z : List ℕ). length z * c.dat_shape-set.result.1) e ∙ ap (λ z. length (originals_in sets (dat_set g d)) * z) q in
+    ap (λ (z : List ℕ). length z * c.dat_shape-set.result.1) e ∙ ap (λ z. length (originals_in sets (dat_set g d)) * z) q in
     let s = cells_more g sets d in
     rw c.in_ok-push.ensures.items (
       omega (arith, length_push c.loop-dat.bases.items c.loop-dat.cells, c.loop-dat.invariant.0),

@@ -22,8 +22,8 @@ read_below now sets lists ranks e h n x r t = rw (← n) (stands_below lists r x
 pub push_owned-requires : goal.push_owned-requires
 push_owned-requires c =
     let own : length c.deref_mut.result.now ≡ c.args.ranks =
-        empty_long c.deref_mut.result.now c.in_ok-own.own.items c.deref.result.now c.in_ok-counts.counts.items c.args.ranks
-        c.deref_mut.ensures.value c.in_ok-own.ensures.length c.deref.ensures.value c.in_ok-counts.ensures in
+    empty_long c.deref_mut.result.now c.in_ok-own.own.items c.deref.result.now c.in_ok-counts.counts.items c.args.ranks
+    c.deref_mut.ensures.value c.in_ok-own.ensures.length c.deref.ensures.value c.in_ok-counts.ensures in
     record {
       few = rw own c.requires.few;
       owners = λ x l. rw own (c.requires.owners x l);
@@ -36,8 +36,8 @@ pub push_listed-requires : goal.push_listed-requires
 push_listed-requires c =
     let counts : length c.in_ok-exec_counts.exec_counts.items ≡ c.args.ranks = c.in_ok-exec_counts.ensures ∙ c.requires.exec_count in
     let long : length c.deref_mut-2.result.now ≡ c.args.ranks =
-        empty_long c.deref_mut-2.result.now c.in_ok-executed.executed.items c.deref-2.result.now c.in_ok-exec_counts.exec_counts.items
-        c.args.ranks c.deref_mut-2.ensures.value c.in_ok-executed.ensures.length c.deref-2.ensures.value counts in
+    empty_long c.deref_mut-2.result.now c.in_ok-executed.executed.items c.deref-2.result.now c.in_ok-exec_counts.exec_counts.items
+    c.args.ranks c.deref_mut-2.ensures.value c.in_ok-executed.ensures.length c.deref-2.ensures.value counts in
     record {
       few = rw long c.requires.few;
       below = λ x r lr t. rw long (read_below c.deref-5.result.now c.in_ok-exec_sets.exec_sets.items c.args.exec.now c.args.ranks
@@ -52,8 +52,8 @@ pub push_listed-requires-2 : goal.push_listed-requires-2
 push_listed-requires-2 c =
     let counts : length c.in_ok-nonexec_counts.nonexec_counts.items ≡ c.args.ranks = c.in_ok-nonexec_counts.ensures ∙ c.requires.nonexec_count in
     let long : length c.deref_mut-3.result.now ≡ c.args.ranks =
-        empty_long c.deref_mut-3.result.now c.in_ok-read.read.items c.deref-3.result.now c.in_ok-nonexec_counts.nonexec_counts.items
-        c.args.ranks c.deref_mut-3.ensures.value c.in_ok-read.ensures.length c.deref-3.ensures.value counts in
+    empty_long c.deref_mut-3.result.now c.in_ok-read.read.items c.deref-3.result.now c.in_ok-nonexec_counts.nonexec_counts.items
+    c.args.ranks c.deref_mut-3.ensures.value c.in_ok-read.ensures.length c.deref-3.ensures.value counts in
     record {
       few = rw long c.requires.few;
       below = λ x r lr t. rw long (read_below c.deref-6.result.now c.in_ok-nonexec_sets.nonexec_sets.items c.args.nonexec.now c.args.ranks
@@ -67,8 +67,8 @@ push_listed-requires-2 c =
 pub push_copies-requires : goal.push_copies-requires
 push_copies-requires c =
     let long : length c.deref_mut-4.result.now ≡ c.args.ranks =
-        empty_long c.deref_mut-4.result.now c.in_ok-copies.copies.items c.deref-4.result.now c.in_ok-counts.counts.items c.args.ranks
-        c.deref_mut-4.ensures.value c.in_ok-copies.ensures.length c.deref-4.ensures.value c.in_ok-counts.ensures in
+    empty_long c.deref_mut-4.result.now c.in_ok-copies.copies.items c.deref-4.result.now c.in_ok-counts.counts.items c.args.ranks
+    c.deref_mut-4.ensures.value c.in_ok-copies.ensures.length c.deref-4.ensures.value c.in_ok-counts.ensures in
     record {
       few = rw long c.requires.few;
       size = c.requires.size;
@@ -89,19 +89,19 @@ push_copies-requires c =
 pub returns : goal.returns
 returns c =
     let own : length c.deref_mut.result.now ≡ c.args.ranks =
-        empty_long c.deref_mut.result.now c.in_ok-own.own.items c.deref.result.now c.in_ok-counts.counts.items c.args.ranks
-        c.deref_mut.ensures.value c.in_ok-own.ensures.length c.deref.ensures.value c.in_ok-counts.ensures in
+    empty_long c.deref_mut.result.now c.in_ok-own.own.items c.deref.result.now c.in_ok-counts.counts.items c.args.ranks
+    c.deref_mut.ensures.value c.in_ok-own.ensures.length c.deref.ensures.value c.in_ok-counts.ensures in
     let exec_counts : length c.in_ok-exec_counts.exec_counts.items ≡ c.args.ranks = c.in_ok-exec_counts.ensures ∙ c.requires.exec_count in
     let nonexec_counts : length c.in_ok-nonexec_counts.nonexec_counts.items ≡ c.args.ranks = c.in_ok-nonexec_counts.ensures ∙ c.requires.nonexec_count in
     let exec : length c.deref_mut-2.result.now ≡ c.args.ranks =
-        empty_long c.deref_mut-2.result.now c.in_ok-executed.executed.items c.deref-2.result.now c.in_ok-exec_counts.exec_counts.items
-        c.args.ranks c.deref_mut-2.ensures.value c.in_ok-executed.ensures.length c.deref-2.ensures.value exec_counts in
+    empty_long c.deref_mut-2.result.now c.in_ok-executed.executed.items c.deref-2.result.now c.in_ok-exec_counts.exec_counts.items
+    c.args.ranks c.deref_mut-2.ensures.value c.in_ok-executed.ensures.length c.deref-2.ensures.value exec_counts in
     let nonexec : length c.deref_mut-3.result.now ≡ c.args.ranks =
-        empty_long c.deref_mut-3.result.now c.in_ok-read.read.items c.deref-3.result.now c.in_ok-nonexec_counts.nonexec_counts.items
-        c.args.ranks c.deref_mut-3.ensures.value c.in_ok-read.ensures.length c.deref-3.ensures.value nonexec_counts in
+    empty_long c.deref_mut-3.result.now c.in_ok-read.read.items c.deref-3.result.now c.in_ok-nonexec_counts.nonexec_counts.items
+    c.args.ranks c.deref_mut-3.ensures.value c.in_ok-read.ensures.length c.deref-3.ensures.value nonexec_counts in
     let copies : length c.deref_mut-4.result.now ≡ c.args.ranks =
-        empty_long c.deref_mut-4.result.now c.in_ok-copies.copies.items c.deref-4.result.now c.in_ok-counts.counts.items c.args.ranks
-        c.deref_mut-4.ensures.value c.in_ok-copies.ensures.length c.deref-4.ensures.value c.in_ok-counts.ensures in
+    empty_long c.deref_mut-4.result.now c.in_ok-copies.copies.items c.deref-4.result.now c.in_ok-counts.counts.items c.args.ranks
+    c.deref_mut-4.ensures.value c.in_ok-copies.ensures.length c.deref-4.ensures.value c.in_ok-counts.ensures in
     let e1 = with_items_is c.in_ok-own.own c.push_owned.new.lists (c.push_owned.auto.lists ∙ c.deref_mut.ensures.len) in
     let e2 = with_items_is c.in_ok-executed.executed c.push_listed.new.lists (c.push_listed.auto.lists ∙ c.deref_mut-2.ensures.len) in
     let e3 = with_items_is c.in_ok-read.read c.push_listed-2.new.lists (c.push_listed-2.auto.lists ∙ c.deref_mut-3.ensures.len) in
@@ -126,10 +126,10 @@ returns c =
             (λ x. nat_eq (get_or c.args.owners.now x 0) r || (has_at c.deref-7.result.now x r || has_at c.deref-8.result.now x r))
             (λ x. nat_eq (get_or c.args.owners.now x 0) r || (stands (row c.args.exec.now r) x || stands (row c.args.nonexec.now r) x))
             (λ x lx. ap (λ z. nat_eq (get_or c.args.owners.now x 0) r || (z || has_at c.deref-8.result.now x r))
-                (read_has c.deref-7.result.now c.in_ok-exec_sets.exec_sets.items c.args.exec.now c.deref-7.ensures.value
-                c.in_ok-exec_sets.ensures.has x r)
+            (read_has c.deref-7.result.now c.in_ok-exec_sets.exec_sets.items c.args.exec.now c.deref-7.ensures.value
+            c.in_ok-exec_sets.ensures.has x r)
             ∙ ap (λ z. nat_eq (get_or c.args.owners.now x 0) r || (stands (row c.args.exec.now r) x || z))
-                (read_has c.deref-8.result.now c.in_ok-nonexec_sets.nonexec_sets.items c.args.nonexec.now c.deref-8.ensures.value
-                c.in_ok-nonexec_sets.ensures.has x r))),
+            (read_has c.deref-8.result.now c.in_ok-nonexec_sets.nonexec_sets.items c.args.nonexec.now c.deref-8.ensures.value
+            c.in_ok-nonexec_sets.ensures.has x r))),
       );
     }

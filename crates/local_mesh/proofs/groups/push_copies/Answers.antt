@@ -33,8 +33,8 @@ push_each-requires c =
           (λ (f : has_at c.args.nonexec_sets.now x r ≡ true). c.requires.nonexec_below x r l f)
           (or_cases (has_at c.args.exec_sets.now x r) (has_at c.args.nonexec_sets.now x r) e))
           (or_cases (nat_eq owner r) (has_at c.args.exec_sets.now x r || has_at c.args.nonexec_sets.now x r)
-              (sym (all c.union-imported.result c.with.result owner (has_at c.args.exec_sets.now x r) (has_at c.args.nonexec_sets.now x r) r
-              (c.union-imported.ensures r) (c.with.ensures r)) ∙ t)) in
+          (sym (all c.union-imported.result c.with.result owner (has_at c.args.exec_sets.now x r) (has_at c.args.nonexec_sets.now x r) r
+          (c.union-imported.ensures r) (c.with.ensures r)) ∙ t)) in
           omega (arith, b, c.loop-element.auto.lists));
     }
 
@@ -47,5 +47,5 @@ loop-element-preserved c =
     listed_step (row c.push_each.new.lists r) (row c.loop-element.lists r) x (λ y. nat_eq (get_or c.args.owners.now y 0) r || (has_at c.args.exec_sets.now y r || has_at c.args.nonexec_sets.now y r))
     (c.loop-element.invariant r lr)
     (c.in_ok-push_each.ensures r lr ∙ ap (λ z. row c.loop-element.lists r ++ cond z (x ∷ []) [])
-        (all c.union-imported.result c.with.result owner (has_at c.args.exec_sets.now x r) (has_at c.args.nonexec_sets.now x r) r
-        (c.union-imported.ensures r) (c.with.ensures r))))
+    (all c.union-imported.result c.with.result owner (has_at c.args.exec_sets.now x r) (has_at c.args.nonexec_sets.now x r) r
+    (c.union-imported.ensures r) (c.with.ensures r))))

@@ -12,5 +12,5 @@ returns-clause-has c =
     let n : length c.add_ranks.new.sets ≡ c.in_ok-sets.sets.len = omega (arith, c.add_ranks.auto.sets, c.deref_mut.ensures.len) in
     rw (with_items_is c.in_ok-sets.sets c.add_ranks.new.sets n) (λ x r. c.add_ranks.ensures x r
     ∙ ap (λ b. b || stands (row c.args.lists.now r) x)
-        (ap (λ (q : List RankSet). has_at q x r) (c.deref_mut.ensures.value ∙ c.in_ok-sets.ensures.items_if_clones_equal (λ y h. h))
-        ∙ has_at_replicate c.args.size c.empty.result c.empty.ensures x r))
+    (ap (λ (q : List RankSet). has_at q x r) (c.deref_mut.ensures.value ∙ c.in_ok-sets.ensures.items_if_clones_equal (λ y h. h))
+    ∙ has_at_replicate c.args.size c.empty.result c.empty.ensures x r))

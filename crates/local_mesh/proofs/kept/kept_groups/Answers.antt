@@ -6,8 +6,8 @@ use Rattle.local_mesh.proofs.kept.kept_groups.Goals as goal
 pub push_owned-requires : goal.push_owned-requires
 push_owned-requires c =
     let own : length c.deref_mut.result.now ≡ c.args.ranks =
-        empty_long c.deref_mut.result.now c.in_ok-own.own.items c.deref.result.now c.in_ok-counts.counts.items c.args.ranks
-        c.deref_mut.ensures.value c.in_ok-own.ensures.length c.deref.ensures.value c.in_ok-counts.ensures in
+    empty_long c.deref_mut.result.now c.in_ok-own.own.items c.deref.result.now c.in_ok-counts.counts.items c.args.ranks
+    c.deref_mut.ensures.value c.in_ok-own.ensures.length c.deref.ensures.value c.in_ok-counts.ensures in
     record {
       few = rw own c.requires.few;
       owners = λ x l. rw own (c.requires.owners x l);
@@ -19,8 +19,8 @@ push_owned-requires c =
 pub returns : goal.returns
 returns c =
     let own : length c.deref_mut.result.now ≡ c.args.ranks =
-        empty_long c.deref_mut.result.now c.in_ok-own.own.items c.deref.result.now c.in_ok-counts.counts.items c.args.ranks
-        c.deref_mut.ensures.value c.in_ok-own.ensures.length c.deref.ensures.value c.in_ok-counts.ensures in
+    empty_long c.deref_mut.result.now c.in_ok-own.own.items c.deref.result.now c.in_ok-counts.counts.items c.args.ranks
+    c.deref_mut.ensures.value c.in_ok-own.ensures.length c.deref.ensures.value c.in_ok-counts.ensures in
     let e = with_items_is c.in_ok-own.own c.push_owned.new.lists (c.push_owned.auto.lists ∙ c.deref_mut.ensures.len) in
     record {
       own_count = rw e (c.push_owned.auto.lists ∙ own);

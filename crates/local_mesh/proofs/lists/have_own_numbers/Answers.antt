@@ -1,4 +1,4 @@
-use Rattle.std.proofs.Common.{◌≡◌, ℕ, length, arith}
+use Rattle.std.proofs.Common.{◌≡◌, length, arith}
 use Rattle.mesh_decl.specs.Mesh.{set_size}
 use Rattle.local_mesh.proofs.AtOwners.{own_numbers}
 use Rattle.local_mesh.proofs.lists.have_own_numbers.Goals as goal

@@ -27,7 +27,7 @@ loop-set-preserved c =
     let l : s < length hs = omega (arith, c.set_count-set-end.ensures.count, c.loop-set-test.true, c.loop-set.auto.set-end, c.requires.halos.count) in
     let P : ℕ → LocalLists → Type 0 = λ q t. (d : SetHalo) → IsLocalLists g c.args.owners.now c.args.meshes.now q (get_or hs q d) t in
     let here : P s v = λ d. subst (λ (z : SetHalo). IsLocalLists g c.args.owners.now c.args.meshes.now s z v)
-        (c.index-halo.ensures ∙ get_or_default hs s c.index-halo.result.now d l) c.in_ok-set_lists.ensures in
+    (c.index-halo.ensures ∙ get_or_default hs s c.index-halo.result.now d l) c.in_ok-set_lists.ensures in
     rw c.in_ok-push.ensures.items (
       omega (arith, length_push xs v, c.loop-set.invariant.0),
       each_more xs v s P c.loop-set.invariant.0 here c.loop-set.invariant.1,

@@ -41,13 +41,16 @@ loop-rank-preserved c =
     subst (λ (z : List ℕ). (k : ℕ) → k < length (originals_of c.args.meshes.now r s) → get_or z (get_or (originals_of c.args.meshes.now r s) k 0) 0 ≡ k) (sym t)
     (subst (λ (z : List ℕ). (k : ℕ) → k < length z → get_or c.number_locals.new.numbers (get_or z k 0) 0 ≡ k) c.originals_of.ensures c.number_locals.ensures.at) in
     let count : length w.items ≡ o.ranks = subst (λ (z : List (Vec (Vec ℕ Global) Global)). length w.items ≡ length z) c.deref.ensures.value
-        c.in_ok-read_imports.ensures.length ∙ c.requires.halo.export_count in
+    c.in_ok-read_imports.ensures.length ∙ c.requires.halo.export_count in
     let read : (a : ℕ) → a < length h.exports.items → AreRead table (row (rows h.exports.items a) r) (row w.items a) =
     subst (λ (z : List (Vec (Vec ℕ Global) Global)). (a : ℕ) → a < length z → AreRead table (row (rows z a) r) (row w.items a)) c.deref.ensures.value c.in_ok-read_imports.ensures.at in
     let P : ℕ → List (Vec ℕ Global) → Type 0 = λ q z. (length z ≡ o.ranks) × ((a : ℕ) → a < o.ranks → AreLocals (originals_of c.args.meshes.now q s) (row (rows h.exports.items a) q) (row z a)) in
-    let here : P r w.items = (count, λ a la. import_locals g o s h c.requires.halo r (sets_of c.args.meshes.now r) table
-        c.loop-rank-test.true (c.requires.held.ranks r c.loop-rank-test.true) at a la (row w.items a)
-        (read a (omega (arith, c.requires.halo.export_count)))) in
+    let here : P r w.items = (
+      count,
+      λ a la. import_locals g o s h c.requires.halo r (sets_of c.args.meshes.now r) table
+          c.loop-rank-test.true (c.requires.held.ranks r c.loop-rank-test.true) at a la (row w.items a)
+          (read a (omega (arith, c.requires.halo.export_count))),
+    ) in
     rw (e, c.in_ok-push.ensures.items) (
       omega (arith, n, v.ok.0, c.loop-rank.invariant.0),
       omega (arith, length_push xs w, c.loop-rank.invariant.1),

@@ -27,7 +27,7 @@ pub locals_of-requires : goal.locals_of-requires
 locals_of-requires c =
     let a : ℕ = c.loop-lists.lists-index in
     let e = list_is c.args.exports.now a c.args.rank c.lists-item.result c.index.result.now c.deref.result.now c.loop-lists-test.true
-        (c.requires.rank a c.loop-lists-test.true) c.lists-item.is c.index.ensures c.deref.ensures.value in
+    (c.requires.rank a c.loop-lists-test.true) c.lists-item.is c.index.ensures c.deref.ensures.value in
     subst (λ (z : List ℕ). (k : ℕ) → k < length z → get_or z k 0 < length c.args.table.now) (sym e) (c.requires.within a c.loop-lists-test.true)
 
 pub loop-lists-preserved : goal.loop-lists-preserved
@@ -35,7 +35,7 @@ loop-lists-preserved c =
     let a : ℕ = c.loop-lists.lists-index in
     let xs = c.loop-lists.found.items in
     let e = list_is c.args.exports.now a c.args.rank c.lists-item.result c.index.result.now c.deref.result.now c.loop-lists-test.true
-        (c.requires.rank a c.loop-lists-test.true) c.lists-item.is c.index.ensures c.deref.ensures.value in
+    (c.requires.rank a c.loop-lists-test.true) c.lists-item.is c.index.ensures c.deref.ensures.value in
     let v = c.in_ok-locals_of.field-0 in
     let read : AreRead c.args.table.now (row (rows c.args.exports.now a) c.args.rank) v.items =
     subst (λ (z : List ℕ). AreRead c.args.table.now z v.items) e (record { count = c.in_ok-locals_of.ensures.length; each = c.in_ok-locals_of.ensures.at }) in

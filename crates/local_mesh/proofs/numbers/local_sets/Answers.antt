@@ -22,7 +22,7 @@ loop-set-preserved c =
     let v = c.in_ok-set_of_rank.field-0 in
     let each = each_more xs v n (λ s z. (t : Groups) (h : SetHalo) → IsJoinedFrom c.args.rank (get_or groups s t) (get_or halos s h) z) c.loop-set.invariant.0
     (joined_at c.args.rank groups halos n c.index-groups-set.result c.index-halo.result.now v c.loop-set-test.true
-        (rw c.requires.halos c.loop-set-test.true) c.index-groups-set.is c.index-halo.ensures c.in_ok-set_of_rank.ensures)
+    (rw c.requires.halos c.loop-set-test.true) c.index-groups-set.is c.index-halo.ensures c.in_ok-set_of_rank.ensures)
     (λ s d l t h. c.loop-set.invariant.1 s t h d l) in
     rw c.in_ok-push.ensures.items (
       omega (arith, length_push xs v, c.loop-set.invariant.0),

@@ -44,11 +44,11 @@ slice_bounds-local_targets-end c =
     let l : s < length c.args.sets.now = rw c.requires.closed.count c.requires.at.from in
     let f = ap (λ z. z.0) c.map_ends-from.ensures in
     let e = read c.args.sets.now c.map_ends-from.result.0 s c.index-sets-from.result c.as_slice-elements.result.now f l
-        (c.as_slice-elements.ensures ∙ ap (λ (z : LocalSet). z.original) c.index-sets-from.is) in
+    (c.as_slice-elements.ensures ∙ ap (λ (z : LocalSet). z.original) c.index-sets-from.is) in
     let q = executed c.args.sets.now c.map_ends-from.result.0 s c.index-sets-from.result f l c.index-sets-from.is in
     sym (length-take-le (c.index-sets-from.result.own + c.index-sets-from.result.exec) c.as_slice-elements.result.now
-        (few c.args.mesh.now c.args.sets.now s (c.index-sets-from.result.own + c.index-sets-from.result.exec) c.as_slice-elements.result.now
-        c.requires.closed c.requires.at.from e q))
+    (few c.args.mesh.now c.args.sets.now s (c.index-sets-from.result.own + c.index-sets-from.result.exec) c.as_slice-elements.result.now
+    c.requires.closed c.requires.at.from e q))
 
 pub local_targets-requires-clause-elements : goal.local_targets-requires-clause-elements
 local_targets-requires-clause-elements c =
@@ -56,7 +56,7 @@ local_targets-requires-clause-elements c =
     let l : s < length c.args.sets.now = rw c.requires.closed.count c.requires.at.from in
     let f = ap (λ z. z.0) c.map_ends-from.ensures in
     let e = read c.args.sets.now c.map_ends-from.result.0 s c.index-sets-from.result c.as_slice-elements.result.now f l
-        (c.as_slice-elements.ensures ∙ ap (λ (z : LocalSet). z.original) c.index-sets-from.is) in
+    (c.as_slice-elements.ensures ∙ ap (λ (z : LocalSet). z.original) c.index-sets-from.is) in
     let q = executed c.args.sets.now c.map_ends-from.result.0 s c.index-sets-from.result f l c.index-sets-from.is in
     let n : ℕ = c.index-sets-from.result.own + c.index-sets-from.result.exec in
     let le = few c.args.mesh.now c.args.sets.now s n c.as_slice-elements.result.now c.requires.closed c.requires.at.from e q in
@@ -64,8 +64,8 @@ local_targets-requires-clause-elements c =
     λ k lk. (
     let ln : k < n = omega arith in
     rw (get_or-take n c.as_slice-elements.result.now k 0 ln)
-        (subst (λ (z : List ℕ). k < length z → get_or z k 0 < set_size c.args.mesh.now s) (sym e)
-        (λ m. c.requires.closed.within s k c.requires.at.from m) (omega arith)))
+    (subst (λ (z : List ℕ). k < length z → get_or z k 0 < set_size c.args.mesh.now s) (sym e)
+    (λ m. c.requires.closed.within s k c.requires.at.from m) (omega arith)))
 
 pub returns : goal.returns
 returns c =
@@ -78,7 +78,7 @@ returns c =
     let f = ap (λ z. z.0) c.map_ends-from.ensures in
     let n : ℕ = c.index-sets-from.result.own + c.index-sets-from.result.exec in
     targets_are g c.args.map sets c.as_slice-elements.result.now c.as_slice.result.now (take n c.as_slice-elements.result.now)
-        c.number_locals.new.numbers c.in_ok-table.table.items n c.requires.closed c.requires.map c.requires.at
+    c.number_locals.new.numbers c.in_ok-table.table.items n c.requires.closed c.requires.map c.requires.at
     (read sets c.map_ends-from.result.1 t c.index-sets-to.result c.as_slice.result.now (ap (λ z. z.1) c.map_ends-from.ensures) lt c.as_slice.ensures)
     (read sets c.map_ends-from.result.0 s c.index-sets-from.result c.as_slice-elements.result.now f ls (c.as_slice-elements.ensures ∙ ap (λ (z : LocalSet). z.original) c.index-sets-from.is))
     (executed sets c.map_ends-from.result.0 s c.index-sets-from.result f ls c.index-sets-from.is)

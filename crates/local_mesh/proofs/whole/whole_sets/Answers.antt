@@ -57,6 +57,6 @@ loop-set-preserved c =
       omega (arith, length_push xs v, c.loop-set.invariant.0),
       each_more xs v s (λ k l. IsLocalSet g o p k 0 l) c.loop-set.invariant.0
           (whole_is g o p s c.requires.owners c.requires.one ls (c.requires.perms.numbers s ls) h c.of_set.result.now
-              c.as_slice-core.result.now v halo c.of_set.ensures c.as_slice-core.ensures.value c.in_ok-whole_set.ensures)
+          c.as_slice-core.result.now v halo c.of_set.ensures c.as_slice-core.ensures.value c.in_ok-whole_set.ensures)
           c.loop-set.invariant.1,
     )

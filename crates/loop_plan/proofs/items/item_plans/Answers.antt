@@ -17,6 +17,6 @@ loop-item-preserved c =
       c.in_ok-plan_item.ensures.count ∙ e,
       plans_more b c.args.halos.now k c.loop-item.plans.items c.in_ok-plan_item.field-0 c.loop-item.invariant.0 c.loop-item.invariant.2
           (by_bits b c.args.halos.now k c.dat_count-dats.result c.loop-item.dirty c.in_ok-plan_item.field-0 e c.loop-item.invariant.3
-              c.in_ok-plan_item.ensures.exchange c.in_ok-plan_item.ensures.pairs),
+          c.in_ok-plan_item.ensures.exchange c.in_ok-plan_item.ensures.pairs),
       λ d l. bit_more b k d (slice_index_or c.loop-item.dirty d false) (slice_index_or c.plan_item.new.dirty d false) (c.loop-item.invariant.3 d l) (c.in_ok-plan_item.ensures.bits d (omega arith)),
     )

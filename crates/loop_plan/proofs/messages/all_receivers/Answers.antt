@@ -12,7 +12,7 @@ loop-set-preserved c =
     let xs = c.loop-set.receivers.items in
     let v = c.in_ok-receivers_by_owner.field-0 in
     let here : length c.exports_of.result.now ≡ h.ranks = ap (λ (z : List (Vec (Vec ℕ Global) Global)). length z) c.exports_of.ensures
-        ∙ c.requires.exports.owners t (omega (arith, c.loop-set-test.true, c.loop-set.auto.set-end, c.set_count-set-end.ensures.count)) in
+    ∙ c.requires.exports.owners t (omega (arith, c.loop-set-test.true, c.loop-set.auto.set-end, c.set_count-set-end.ensures.count)) in
     rw c.in_ok-push.ensures.items (
       omega (arith, length_push xs v, c.loop-set.invariant.0),
       sets_more xs v t (λ i. h.ranks) c.loop-set.invariant.0 (c.in_ok-receivers_by_owner.ensures.count ∙ here) c.loop-set.invariant.1,

@@ -7,4 +7,4 @@ use Rattle.main_declarations.proofs.declarations.judged_declrs.Given as goal
 abbrev pub invariant-loop-declr : goal.invariant-loop-declr
 invariant-loop-declr l =
     judged_declrs l.source.places.now (walked l.k l.steps.items) l.spot l.is_const (map declr_of (drop l.declr-index l.declrs)) ≡
-        judged_declrs l.source.places.now (walked l.initial.k l.initial.steps.items) l.spot l.is_const (map declr_of l.declrs)
+    judged_declrs l.source.places.now (walked l.initial.k l.initial.steps.items) l.spot l.is_const (map declr_of l.declrs)

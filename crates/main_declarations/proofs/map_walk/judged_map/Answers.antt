@@ -15,10 +15,10 @@ ready : (c : goal.After-unsigned_abs) → IsReady c.args.k.now.mesh
     × (or_zero (set_of (means (declared_of c.args.k.now).names c.args.to.now.name)) < set_count c.args.k.now.mesh)
 ready c =
     let none : first_of (shape_decl_found c.args.source.now.places.now c.args.source.now.entries.now.entries (declared_of c.args.k.now)
-        c.args.is_nested c.args.t c.args.from.now c.args.to.now c.args.n c.args.array.now) ≡ None =
-        c.in_ok-first.ensures.shape (search rules) in
+    c.args.is_nested c.args.t c.args.from.now c.args.to.now c.args.n c.args.array.now) ≡ None =
+    c.in_ok-first.ensures.shape (search rules) in
     map_ready c.args.source.now.places.now c.args.source.now.entries.now.entries (declared_of c.args.k.now) c.requires c.args.is_nested
-        c.args.t c.args.n c.args.array.now c.args.from.now c.args.to.now none
+    c.args.t c.args.n c.args.array.now c.args.from.now c.args.to.now none
 
 pub add_map-requires-clause-from : goal.add_map-requires-clause-from
 add_map-requires-clause-from c =

@@ -13,10 +13,10 @@ ready : (c : goal.After-unsigned_abs) → IsReady c.args.k.now.mesh
     (means (declared_of c.args.k.now).names c.args.array.now.name)))
 ready c =
     let none : first_of (dat_decl_found c.args.source.now.places.now c.args.source.now.entries.now.entries (declared_of c.args.k.now)
-        c.args.is_nested c.args.t c.args.set.now c.args.n c.args.l.now c.args.array.now) ≡ None = sym c.in_ok-first.ensures ∙ search rules
-        in
+    c.args.is_nested c.args.t c.args.set.now c.args.n c.args.l.now c.args.array.now) ≡ None = sym c.in_ok-first.ensures ∙ search rules
+    in
     dat_ready c.args.source.now.places.now c.args.source.now.entries.now.entries (declared_of c.args.k.now) c.requires c.args.is_nested
-        c.args.t c.args.n c.args.array.now c.args.set.now c.args.l.now none
+    c.args.t c.args.n c.args.array.now c.args.set.now c.args.l.now none
 
 pub add_dat-requires-clause-set : goal.add_dat-requires-clause-set
 add_dat-requires-clause-set c =

@@ -14,4 +14,4 @@ pub loop-index-preserved : goal.loop-index-preserved
 loop-index-preserved c =
     let fits : FitsSigned w32 (get_or c.args.targets.now c.loop-index.index (pos 0)) = search rules in
     All-more (λ t. is_element c.args.size t ≡ true) c.args.targets.now c.loop-index.index (pos 0) c.loop-index-test.true
-        c.loop-index.invariant (sym (rw (to_z-of_z w32 _ fits) at c.is_element.ensures) ∙ c.if-not-is_element.false)
+    c.loop-index.invariant (sym (rw (to_z-of_z w32 _ fits) at c.is_element.ensures) ∙ c.if-not-is_element.false)

@@ -7,8 +7,8 @@ ghost use Rattle.metis_text.specs.Numbers.{rank_on, ranks_in};
 
 use crate::owner_text::metis::refusals::MetisRefusal;
 use op_num::read_u64;
-use std::alloc::Global;
 use op_num::texts::{Token, Tokens};
+use std::alloc::Global;
 
 // The rank on a line, where this is the next token.
 fn rank_on(token: &Token<'_>, ranks: u32, line: u32) -> Result<u32, MetisRefusal>

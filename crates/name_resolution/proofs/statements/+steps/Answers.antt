@@ -1,5 +1,4 @@
-use Rattle.std.proofs.Common.{◌≡◌, ◌∙◌, sym, ap, rules, arith}
-use Rattle.std.proofs.lemmas.Grind.{common_steps}
+use Rattle.std.proofs.Common.{◌≡◌, ◌∙◌, sym, ap}
 use Rattle.c_tree.specs.Tree as tree
 use Rattle.c_tree.specs.View.{stmt_of, stmts_of}
 use Rattle.c_tree.proofs.Public.{stmt_block}
@@ -58,6 +57,6 @@ pub steps-returns-clause-steps : goal.steps-returns-clause-steps
 steps-returns-clause-steps t c =
     sym (joined_none (rstmts_of c.loop-stmt.steps.items))
     ∙ ap (λ ss. joined (rstmts_of c.loop-stmt.steps.items)
-        (steps c.args.places.now c.args.file.now.entries c.loop-stmt.walk.own.entries c.loop-stmt.walk.next (stmts_of ss)))
-        (sym (drop_end c.args.stmts.now c.loop-stmt.stmt-index c.loop-stmt-test.false))
+    (steps c.args.places.now c.args.file.now.entries c.loop-stmt.walk.own.entries c.loop-stmt.walk.next (stmts_of ss)))
+    (sym (drop_end c.args.stmts.now c.loop-stmt.stmt-index c.loop-stmt-test.false))
     ∙ c.loop-stmt.invariant.steps

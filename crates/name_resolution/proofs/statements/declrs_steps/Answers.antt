@@ -28,6 +28,6 @@ pub returns-clause-steps : goal.returns-clause-steps
 returns-clause-steps c =
     sym (joined_none (rstmts_of c.loop-declr.steps.items))
     ∙ ap (λ ds. joined (rstmts_of c.loop-declr.steps.items)
-        (declrs_steps c.args.places.now c.args.file.now.entries c.loop-declr.walk.own.entries c.loop-declr.walk.next (map declr_of ds)))
-        (sym (drop_end c.args.declrs.now c.loop-declr.declr-index c.loop-declr-test.false))
+    (declrs_steps c.args.places.now c.args.file.now.entries c.loop-declr.walk.own.entries c.loop-declr.walk.next (map declr_of ds)))
+    (sym (drop_end c.args.declrs.now c.loop-declr.declr-index c.loop-declr-test.false))
     ∙ c.loop-declr.invariant.steps

@@ -16,4 +16,4 @@ returns-in-Err-Failed g c =
 pub returns-in-Ok-refused : goal.returns-in-Ok-refused
 returns-in-Ok-refused g c =
     rw c.in-Ok-refused.ensures (tells (map string_bytes c.args.words.now.items) (g.F.Shelf.told c.args.shelf.now)
-        (refused (refusal_of c.in-Err-Refused.refusal)) (rw c.in-Err-Refused.field-0-is at c.in-Err-Refused.ensures))
+    (refused (refusal_of c.in-Err-Refused.refusal)) (rw c.in-Err-Refused.field-0-is at c.in-Err-Refused.ensures))

@@ -18,5 +18,5 @@ returns-in_err-asked g c =
 pub returns : goal.returns
 returns g c =
     command_answered (map string_bytes c.args.words.now.items) (g.F.Shelf.told c.args.shelf.now) (command_of c.in_ok-asked.asked)
-        (Rose (g.F.Shelf.faults c.args.shelf.now) (g.F.Shelf.faults c.to_asked.new.shelf)) c.to_asked.result c.in_ok-asked.ensures.ok
-        c.to_asked.ensures
+    (Rose (g.F.Shelf.faults c.args.shelf.now) (g.F.Shelf.faults c.to_asked.new.shelf)) c.to_asked.result c.in_ok-asked.ensures.ok
+    c.to_asked.ensures

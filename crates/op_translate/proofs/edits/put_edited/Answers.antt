@@ -32,7 +32,7 @@ loop-i-preserved c = elim c.match-stretch_at.branch [
         within = subst (λ z. LieWithin z (length bytes) es) (sym w.from-is) t.later;
         text = ap₂ (λ u v. u ++ edited v (drop v bytes) es) put w.from-is
             ∙ edited_turn begins c.loop-i.i ts c.loop-i.from (length bytes) e bytes c.loop-i.out.items
-                (c.args.out.now.items ++ edited 0 bytes (edits begins ts)) c.loop-i-test.true here t c.loop-i.invariant.text;
+            (c.args.out.now.items ++ edited 0 bytes (edits begins ts)) c.loop-i-test.true here t c.loop-i.invariant.text;
       }
   | in_default w ↦
       let ts = c.args.tokens.now in

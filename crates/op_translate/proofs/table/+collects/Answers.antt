@@ -11,4 +11,4 @@ pub collect-returns-in-Block : goal.collect-returns-in-Block
 collect-returns-in-Block t c =
     let e : host_of c.args.host.now ≡ HostBlock c.in-Block.at (hosts_of c.in-Block.body.items) = ap host_of c.in-Block.is ∙ host_block c.in-Block.at c.in-Block.body in
     subst (λ z. OnOk c.collect_all.result (map loop_of_found c.collect_all.new.found.items ≡ map loop_of_found c.args.found.now.items ++ z))
-        (ap (λ z. all_loops_of (hosts_of z)) c.deref.ensures.value ∙ ap loops_of (sym e)) c.collect_all.ensures
+    (ap (λ z. all_loops_of (hosts_of z)) c.deref.ensures.value ∙ ap loops_of (sym e)) c.collect_all.ensures

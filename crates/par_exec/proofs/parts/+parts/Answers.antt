@@ -26,11 +26,11 @@ join_mut-requires-after_bounds g t c κs within =
     let room : c.args.first + length c.split_at_mut-front.result.0.now < 2 ^ 64 = omega arith in
     let room_back : c.args.first + length c.args.parts.now / 2 + length c.split_at_mut-front.result.1.now < 2 ^ 64 = omega arith in
     let all : TakesEach (g.J.PartJob.takes c.args.jobs.now) c.args.first
-        (c.split_at_mut-front.result.0.now ++ c.split_at_mut-front.result.1.now) =
-        subst (TakesEach (g.J.PartJob.takes c.args.jobs.now) c.args.first) c.split_at_mut-front.ensures.value c.requires.takes in
+    (c.split_at_mut-front.result.0.now ++ c.split_at_mut-front.result.1.now) =
+    subst (TakesEach (g.J.PartJob.takes c.args.jobs.now) c.args.first) c.split_at_mut-front.ensures.value c.requires.takes in
     let front : TakesEach (g.J.PartJob.takes c.args.jobs.now) c.args.first c.split_at_mut-front.result.0.now =
-        takes_front (g.J.PartJob.takes c.args.jobs.now) c.args.first c.split_at_mut-front.result.0.now c.split_at_mut-front.result.1.now all
-        in
+    takes_front (g.J.PartJob.takes c.args.jobs.now) c.args.first c.split_at_mut-front.result.0.now c.split_at_mut-front.result.1.now all
+    in
     let back : TakesEach (g.J.PartJob.takes c.args.jobs.now) (c.args.first + length c.args.parts.now / 2) c.split_at_mut-front.result.1.now =
     subst (λ i. TakesEach (g.J.PartJob.takes c.args.jobs.now) (c.args.first + i) c.split_at_mut-front.result.1.now) n
     (takes_back (g.J.PartJob.takes c.args.jobs.now) c.args.first c.split_at_mut-front.result.0.now c.split_at_mut-front.result.1.now all) in
@@ -40,9 +40,9 @@ pub returns-then-workers-eq1 : goal.returns-then-workers-eq1
 returns-then-workers-eq1 g t c =
     subst (λ z. MadeEach (g.J.PartJob.makes c.args.jobs.now) c.args.first z (c.run_from.new.parts ++ c.run_from-then-workers-eq1.new.parts)) (sym c.split_at_mut-front.ensures.value)
     (made_both (g.J.PartJob.makes c.args.jobs.now) c.args.first c.split_at_mut-front.result.0.now c.split_at_mut-front.result.1.now
-        c.run_from.new.parts c.run_from-then-workers-eq1.new.parts c.run_from.ensures
+    c.run_from.new.parts c.run_from-then-workers-eq1.new.parts c.run_from.ensures
     (subst (λ i. MadeEach (g.J.PartJob.makes c.args.jobs.now) (c.args.first + i) c.split_at_mut-front.result.1.now
-        c.run_from-then-workers-eq1.new.parts) (sym c.split_at_mut-front.ensures.front_len) c.run_from-then-workers-eq1.ensures))
+    c.run_from-then-workers-eq1.new.parts) (sym c.split_at_mut-front.ensures.front_len) c.run_from-then-workers-eq1.ensures))
 
 pub returns : goal.returns
 returns g t c =

@@ -20,7 +20,7 @@ overflow_add-counts c =
     let most : count_below e (names g m t) ≤ e = count_most e (names g m t) in
     let v : get_or c.loop-place.counts t 0 ≤ e = rw (c.loop-place.invariant t c.target-target.ensures.within) most in
     let fits = entry_fits c.args.element (map_dim g m) c.loop-place.place (get_or c.loop-place.counts t 0) (omega (arith, c.ranges.element))
-        (omega (arith, d, c.map_ends-dim.type_inv)) (omega (arith, d, c.loop-place-test.true)) v in
+    (omega (arith, d, c.map_ends-dim.type_inv)) (omega (arith, d, c.loop-place-test.true)) v in
     omega (arith, fits)
 
 pub loop-place-preserved : goal.loop-place-preserved

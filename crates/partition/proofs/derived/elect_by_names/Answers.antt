@@ -14,15 +14,19 @@ most_frequent_or_block-requires-clause-below c =
     let g = c.args.mesh.now in
     let m : ℕ = c.args.map in
     let lx : c.loop-element.element < set_size g (map_to g m) =
-        omega (arith, c.set_size-size.ensures ∙ ap (λ (z : ℕ × ℕ × ℕ). set_size g z.1) c.map_ends-to.ensures, c.loop-element-test.true,
-        c.loop-element.auto.element-end) in
+    omega (
+      arith,
+      c.set_size-size.ensures ∙ ap (λ (z : ℕ × ℕ × ℕ). set_size g z.1) c.map_ends-to.ensures,
+      c.loop-element-test.true,
+      c.loop-element.auto.element-end,
+    ) in
     let e : c.row-list.result.now ≡ gathered (entries g m) (names g m c.loop-element.element) (λ i. get_or c.args.owners.now (i / map_dim g m) 0) =
     c.row-list.ensures ∙ c.in_ok-lists.ensures.lists c.loop-element.element lx in
     let f : ℕ → ℕ = λ e. get_or c.args.owners.now (e / map_dim g m) 0 in
     subst (λ (z : List ℕ). (k : ℕ) → k < length z → get_or z k 0 < c.args.ranks) (sym e)
     (gathered_below (entries g m) (names g m c.loop-element.element) f c.args.ranks
-        (λ i li. c.requires.below (i / map_dim g m)
-        (rw c.requires.owners ((div-lt_iff_lt-mul {k = map_dim g m} {x = i} {y = set_size g (map_from g m)} c.requires.at.some).1 li))))
+    (λ i li. c.requires.below (i / map_dim g m)
+    (rw c.requires.owners ((div-lt_iff_lt-mul {k = map_dim g m} {x = i} {y = set_size g (map_from g m)} c.requires.at.some).1 li))))
 
 pub loop-element-preserved : goal.loop-element-preserved
 loop-element-preserved c =
@@ -33,8 +37,12 @@ loop-element-preserved c =
     let y : ℕ = c.most_frequent_or_block.result in
     let size : ℕ = c.set_size-size.result in
     let lx : c.loop-element.element < set_size g (map_to g m) =
-        omega (arith, c.set_size-size.ensures ∙ ap (λ (z : ℕ × ℕ × ℕ). set_size g z.1) c.map_ends-to.ensures, c.loop-element-test.true,
-        c.loop-element.auto.element-end) in
+    omega (
+      arith,
+      c.set_size-size.ensures ∙ ap (λ (z : ℕ × ℕ × ℕ). set_size g z.1) c.map_ends-to.ensures,
+      c.loop-element-test.true,
+      c.loop-element.auto.element-end,
+    ) in
     let e : c.row-list.result.now ≡ gathered (entries g m) (names g m c.loop-element.element) (λ i. get_or c.args.owners.now (i / map_dim g m) 0) =
     c.row-list.ensures ∙ c.in_ok-lists.ensures.lists c.loop-element.element lx in
     let inv = c.loop-element.invariant in

@@ -24,8 +24,10 @@ returns-then-not-entry_fits c = (
       let r = reads c.args.given.now s c.index-given-set.result ll c.index-given-set.is in
       let z : c.set_size.result ≡ set_size c.args.mesh.now s = c.set_size.ensures in
       let t : c.entry_fits.result ≡ true = c.entry_fits.ensures.1
-          (λ k. (ap (length {A = ℕ}) (sym r.1) ∙ (a.lengths s l (r.0 ∙ k) ∙ sym z),
-          λ x lx. subst (λ (q : List ℕ). get_or q x 0 < c.args.ranks) r.1 (a.below s x l (r.0 ∙ k) (rw (sym z) lx)))) in
+      (λ k. (
+        ap (length {A = ℕ}) (sym r.1) ∙ (a.lengths s l (r.0 ∙ k) ∙ sym z),
+        λ x lx. subst (λ (q : List ℕ). get_or q x 0 < c.args.ranks) r.1 (a.below s x l (r.0 ∙ k) (rw (sym z) lx)),
+      )) in
       let f : c.entry_fits.result ≡ false = c.if-not-entry_fits.true in
       cc),
 )

@@ -15,8 +15,8 @@ returns-clause-grown c =
     let owners : List ℕ = c.in_ok-owners.owners.items in
     let lo : length order ≡ n = c.in_ok-order.ensures.length in
     let own : (k i : ℕ) → k < length order → InBlock (length order) ranks i k → get_or owners (get_or order k 0) 0 ≡ i =
-        subst (λ (z : List ℕ). (k i : ℕ) → k < length z → InBlock (length z) ranks i k → get_or owners (get_or z k 0) 0 ≡ i)
-        c.deref.ensures.value c.in_ok-owners.ensures.owners in
+    subst (λ (z : List ℕ). (k i : ℕ) → k < length z → InBlock (length z) ranks i k → get_or owners (get_or z k 0) 0 ≡ i)
+    c.deref.ensures.value c.in_ok-owners.ensures.owners in
     record {
       order = order;
       all = lo;

@@ -30,8 +30,8 @@ bounds-seen-neighbour c =
     let items : List ℕ = c.as_slice-neighbour-items.result.now in
     let x : ℕ = get_or c.args.order.now.items c.args.head 0 in
     let u : AreUnseen g m x c.args.seen.now [] items = found g m x c.index.result.now c.args.seen.now c.unseen_neighbours.new.found.items
-        items (get_or_read c.args.order.now.items c.args.head c.index.result.now c.requires.head c.index.ensures 0)
-        c.as_slice-neighbour-items.ensures.value c.in_ok-unseen_neighbours.ensures in
+    items (get_or_read c.args.order.now.items c.args.head c.index.result.now c.requires.head c.index.ensures 0)
+    c.as_slice-neighbour-items.ensures.value c.in_ok-unseen_neighbours.ensures in
     bound g m x c.loop-neighbour.neighbour-index c.args.seen.now c.loop-neighbour.seen items c.requires.at c.requires.map u c.loop-neighbour-test.true c.loop-neighbour.invariant.walk.size
 
 pub bounds-seen-neighbour-then-not-seen-neighbour : goal.bounds-seen-neighbour-then-not-seen-neighbour
@@ -41,8 +41,8 @@ bounds-seen-neighbour-then-not-seen-neighbour c =
     let items : List ℕ = c.as_slice-neighbour-items.result.now in
     let x : ℕ = get_or c.args.order.now.items c.args.head 0 in
     let u : AreUnseen g m x c.args.seen.now [] items = found g m x c.index.result.now c.args.seen.now c.unseen_neighbours.new.found.items
-        items (get_or_read c.args.order.now.items c.args.head c.index.result.now c.requires.head c.index.ensures 0)
-        c.as_slice-neighbour-items.ensures.value c.in_ok-unseen_neighbours.ensures in
+    items (get_or_read c.args.order.now.items c.args.head c.index.result.now c.requires.head c.index.ensures 0)
+    c.as_slice-neighbour-items.ensures.value c.in_ok-unseen_neighbours.ensures in
     bound g m x c.loop-neighbour.neighbour-index c.args.seen.now c.loop-neighbour.seen items c.requires.at c.requires.map u c.loop-neighbour-test.true c.loop-neighbour.invariant.walk.size
 
 pub loop-neighbour-preserved : goal.loop-neighbour-preserved
@@ -59,8 +59,8 @@ loop-neighbour-preserved c =
     let seen : List Bool = c.loop-neighbour.seen in
     let inv = c.loop-neighbour.invariant in
     let u : AreUnseen g m x c.args.seen.now [] items = found g m x c.index.result.now c.args.seen.now c.unseen_neighbours.new.found.items
-        items (get_or_read c.args.order.now.items c.args.head c.index.result.now c.requires.head c.index.ensures 0)
-        c.as_slice-neighbour-items.ensures.value c.in_ok-unseen_neighbours.ensures in
+    items (get_or_read c.args.order.now.items c.args.head c.index.result.now c.requires.head c.index.ensures 0)
+    c.as_slice-neighbour-items.ensures.value c.in_ok-unseen_neighbours.ensures in
     let nz : near x z ≡ true = u.near i c.loop-neighbour-test.true in
     let lz : z < n = (neighbours_within g m x z c.requires.at c.requires.map nz).1 in
     let ls : z < length seen = rw inv.walk.size lz in
@@ -83,7 +83,7 @@ loop-neighbour-preserved c =
                 let s : length order < block_start n ranks (q + 1) = subst (λ v. length order < v) ee short in
                 growing_push n ranks near q c.args.head order seen z ls (omega (arith, lh)) was s
                 (next_near_free n ranks near q c.args.head order seen (block_start n ranks q) i items refl inv.walk was s b lh
-                    c.loop-neighbour-test.true lz (subst (λ v. near v z ≡ true) (sym inv.here) nz) f
+                c.loop-neighbour-test.true lz (subst (λ v. near v z ≡ true) (sym inv.here) nz) f
                 (λ y t fy. u.all y (subst (λ v. near v y ≡ true) inv.here t) (before c.args.seen.now seen y inv.kept fy)) (inv.done short) (by_number items u.rises)));
           }))
       | else-len-end w ↦
@@ -111,8 +111,8 @@ returns-clause-grown c = λ ranks q ee b grow.
     let x : ℕ = get_or c.args.order.now.items c.args.head 0 in
     let inv = c.loop-neighbour.invariant in
     let u : AreUnseen g m x c.args.seen.now [] items = found g m x c.index.result.now c.args.seen.now c.unseen_neighbours.new.found.items
-        items (get_or_read c.args.order.now.items c.args.head c.index.result.now c.requires.head c.index.ensures 0)
-        c.as_slice-neighbour-items.ensures.value c.in_ok-unseen_neighbours.ensures in
+    items (get_or_read c.args.order.now.items c.args.head c.index.result.now c.requires.head c.index.ensures 0)
+    c.as_slice-neighbour-items.ensures.value c.in_ok-unseen_neighbours.ensures in
     growing_closed (set_size g (map_to g m)) ranks near q c.args.head order c.loop-neighbour.seen (inv.grown ranks q ee b grow)
     (λ s y t. all_done (near x) c.args.seen.now c.loop-neighbour.seen items u.all inv.kept
-        (λ i l. inv.done (subst (λ v. length order < v) (sym ee) s) i (omega arith)) y (subst (λ v. near v y ≡ true) inv.here t))
+    (λ i l. inv.done (subst (λ v. length order < v) (sym ee) s) i (omega arith)) y (subst (λ v. near v y ≡ true) inv.here t))

@@ -19,9 +19,9 @@ take_neighbours-requires-clause-walk c =
       | then-head-len+in_ok-push w ↦
           (let io : c.if-head-len.order.items ≡ order ++ w.least_free-least.result ∷ [] = ap (λ (v : Vec ℕ Global). v.items) w.order-is ∙ w.in_ok-push.ensures.items in
           rw (io, w.seen-is) (share_start n near c.args.end c.loop-order.head c.loop-order.least c.args.order.now.items order
-              c.loop-order.seen w.least_free-least.result inv short
-              (omega (arith, w.if-head-len.true, c.len-in-loop-order.ensures, c.loop-order.order.ok.0)) w.least_free-least.ensures.within
-              w.least_free-least.ensures.free w.least_free-least.ensures.before).walk)
+          c.loop-order.seen w.least_free-least.result inv short
+          (omega (arith, w.if-head-len.true, c.len-in-loop-order.ensures, c.loop-order.order.ok.0)) w.least_free-least.ensures.within
+          w.least_free-least.ensures.free w.least_free-least.ensures.before).walk)
       | else-head-len w ↦ rw (w.order-is, w.seen-is) inv.walk
     ]
 
@@ -37,9 +37,9 @@ loop-order-preserved c =
       | then-head-len+in_ok-push w ↦
           (let io : c.if-head-len.order.items ≡ order ++ w.least_free-least.result ∷ [] = ap (λ (v : Vec ℕ Global). v.items) w.order-is ∙ w.in_ok-push.ensures.items in
           rw (io, w.seen-is, w.least-is) (share_start n near c.args.end c.loop-order.head c.loop-order.least c.args.order.now.items order
-              c.loop-order.seen w.least_free-least.result inv short
-              (omega (arith, w.if-head-len.true, c.len-in-loop-order.ensures, c.loop-order.order.ok.0)) w.least_free-least.ensures.within
-              w.least_free-least.ensures.free w.least_free-least.ensures.before))
+          c.loop-order.seen w.least_free-least.result inv short
+          (omega (arith, w.if-head-len.true, c.len-in-loop-order.ensures, c.loop-order.order.ok.0)) w.least_free-least.ensures.within
+          w.least_free-least.ensures.free w.least_free-least.ensures.before))
       | else-head-len w ↦ rw (w.order-is, w.seen-is, w.least-is) inv
     ] in
     let here : c.loop-order.head < length c.if-head-len.order.items = elim c.if-head-len.branch [

@@ -95,8 +95,8 @@ returns-clause-halved t c =
     let fits : begin ≤ length xs = lower_share c.args.size c.args.ranks c.args.low c.args.many (length xs) (omega (arith, c.requires.many, c.requires.high)) c.requires.share in
     on_ok c.halve-2.result
     (λ h. λ depth l. halved_parted depth c.args.size c.args.ranks c.args.values.now c.args.dim (λ x. get_or c.halve.new.owners x 0)
-        (λ x. get_or c.halve-2.new.owners x 0) c.args.low c.args.many xs ys lower upper
-        (omega (arith, c.requires.many, c.if-many-eq1.false)) fits parted
+    (λ x. get_or c.halve-2.new.owners x 0) c.args.low c.args.many xs ys lower upper
+    (omega (arith, c.requires.many, c.if-many-eq1.false)) fits parted
     (c.split_at_mut-lower.ensures.front ∙ ap (λ z. take z ys) first) (c.split_at_mut-lower.ensures.back ∙ ap (λ z. drop z ys) first)
     c.requires.once c.in_ok-halve.ensures.halved h.0 h.1 l)
     (both_ok _ _ c.halve-2.result c.halve-2.ensures.kept c.halve-2.ensures.halved)

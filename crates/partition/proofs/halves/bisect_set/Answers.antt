@@ -15,8 +15,8 @@ returns-clause-halved c =
     let n : ℕ = c.in_ok-owners.owners.len in
     let l : length xs ≡ n = omega (arith, c.halve.auto.owners, c.deref_mut.ensures.len) in
     let e : take n (xs ++ drop (length xs) c.in_ok-owners.owners.items) ≡ xs =
-        take-append-le n xs (drop (length xs) c.in_ok-owners.owners.items) (omega (arith, l)) ∙ take_all n xs (omega (arith, l)) in
+    take-append-le n xs (drop (length xs) c.in_ok-owners.owners.items) (omega (arith, l)) ∙ take_all n xs (omega (arith, l)) in
     rw e (bisected c.args.size c.args.ranks c.args.values.now c.args.dim xs c.in_ok-elements.elements.items c.requires.some
-        c.in_ok-elements.ensures.length c.in_ok-elements.ensures.each
-        (subst (λ (z : List ℕ). IsHalved c.args.ranks c.args.size c.args.ranks c.args.values.now c.args.dim (λ x. get_or xs x 0) 0
-        c.args.ranks z) c.deref_mut-2.ensures.value (c.in_ok-halve.ensures.halved c.args.ranks (omega arith))))
+    c.in_ok-elements.ensures.length c.in_ok-elements.ensures.each
+    (subst (λ (z : List ℕ). IsHalved c.args.ranks c.args.size c.args.ranks c.args.values.now c.args.dim (λ x. get_or xs x 0) 0
+    c.args.ranks z) c.deref_mut-2.ensures.value (c.in_ok-halve.ensures.halved c.args.ranks (omega arith))))

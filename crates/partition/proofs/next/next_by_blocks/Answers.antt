@@ -7,5 +7,5 @@ pub returns-then-not-known-set-clause-some : goal.returns-then-not-known-set-cla
 returns-then-not-known-set-clause-some c =
     let g = c.args.mesh.now in
     first_from (set_count g) (λ s. not (get_or c.args.known.now s false)) c.loop-set.set
-        (omega (arith, c.loop-set-test.true, c.loop-set.auto.set-end, c.set_count-set-end.ensures.count)) (rw c.if-not-known-set.true refl)
-        c.loop-set.invariant
+    (omega (arith, c.loop-set-test.true, c.loop-set.auto.set-end, c.set_count-set-end.ensures.count)) (rw c.if-not-known-set.true refl)
+    c.loop-set.invariant

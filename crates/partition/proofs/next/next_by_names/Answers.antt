@@ -15,6 +15,6 @@ returns-in-Some-clause-some c =
     let first = c.in-Some.ensures.some in (
       first_from (set_count g) (can_follow_names g known) s (omega (arith, c.loop-set-test.true, c.loop-set.auto.set-end, c.set_count-set-end.ensures.count))
           (and_from (not (known s)) (any_below (map_count g) (leads_from_known g known s)) (rw c.if-not-known-set.true refl)
-              (any_from (map_count g) (leads_from_known g known s) c.in-Some.map first.within first.passes)) c.loop-set.invariant,
+          (any_from (map_count g) (leads_from_known g known s) c.in-Some.map first.within first.passes)) c.loop-set.invariant,
       first,
     )

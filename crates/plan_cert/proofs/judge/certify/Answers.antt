@@ -80,7 +80,7 @@ returns-then-steps-gt-MAX_STEPS-clause-refused c =
     let meshes = c.args.ranks.now in
     let p = plan_of (record { ranks = length meshes; block = c.in_ok-block.block; sites = c.in_ok-sites.sites; items = c.in_ok-items.items; steps = c.in_ok-steps.steps }) in
     let proper = is_proper b meshes p c.in_ok-items.items.items (in_range b c.requires.fits) refl refl c.in_ok-items.ensures
-        c.in_ok-sites.ensures.plans c.in_ok-block.ensures.some.0 c.in_ok-steps.ensures in (
+    c.in_ok-sites.ensures.plans c.in_ok-block.ensures.some.0 c.in_ok-steps.ensures in (
       p,
       is_certified b meshes c.args.bytes.now c.new-lines.result c.new-lines.ensures c.take_header.new.lines (c.in_ok-take_header.ensures b meshes)
           c.in_ok-block.block c.take_sizes.new.lines (c.in_ok-block.ensures.judged b meshes refl)

@@ -36,7 +36,7 @@ returns-then-not-take c = λ size. (
   next_number c.args.lines.now c.take.new.self c.taken-line.result c.taken-line.ensures.taken (c.take.ensures.kept c.if-not-take.true),
   text_refused (bound_of c.args.bound.now) c.args.ranks.now size 3 _ c.deref.result.now
       (written c.args.bound.now.mesh c.sets_on.result.now _ c.args.set c.args.rank c.deref.result.now c.clear.new.self.items
-          c.put_rank_halo.new.out.items c.clear.ensures.items c.in_ok-put_rank_halo.ensures c.sets_on.ensures c.deref.ensures.value)
+      c.put_rank_halo.new.out.items c.clear.ensures.items c.in_ok-put_rank_halo.ensures c.sets_on.ensures c.deref.ensures.value)
       c.args.lines.now (c.take.ensures.other c.if-not-take.true),
 )
 
@@ -44,5 +44,5 @@ pub returns : goal.returns
 returns c = λ size.
     text_taken (bound_of c.args.bound.now) c.args.ranks.now size 3 _ c.deref.result.now
     (written c.args.bound.now.mesh c.sets_on.result.now _ c.args.set c.args.rank c.deref.result.now c.clear.new.self.items
-        c.put_rank_halo.new.out.items c.clear.ensures.items c.in_ok-put_rank_halo.ensures c.sets_on.ensures c.deref.ensures.value)
+    c.put_rank_halo.new.out.items c.clear.ensures.items c.in_ok-put_rank_halo.ensures c.sets_on.ensures c.deref.ensures.value)
     c.args.lines.now c.take.new.self (c.take.ensures.taken c.if-not-take.false)

@@ -14,13 +14,13 @@ returns-in_err-take_set c = λ size.
     let b = bound_of c.args.bound.now in
     passed_on b c.args.ranks.now size (awaited_halos b c.args.ranks.now) c.args.lines.now _ (λ _. []) c.from_residual.result c.in_err-take_set.field-0.0 c.from_residual.ensures.1
     (refused_at b c.args.ranks.now size (awaited_set b c.args.ranks.now) c.loop-set.set (set_count b.mesh) c.args.lines.now c.loop-set.lines
-        [] c.in_err-take_set.field-0.0 (omega arith) (c.loop-set.invariant size) (c.in_err-take_set.ensures size))
+    [] c.in_err-take_set.field-0.0 (omega arith) (c.loop-set.invariant size) (c.in_err-take_set.ensures size))
 
 pub loop-set-preserved : goal.loop-set-preserved
 loop-set-preserved c = λ size.
     let b = bound_of c.args.bound.now in
     fits_more b c.args.ranks.now size (awaited_set b c.args.ranks.now) c.loop-set.set c.args.lines.now c.loop-set.lines c.take_set.new.lines
-        [] [] (c.loop-set.invariant size) (c.in_ok-take_set.ensures size)
+    [] [] (c.loop-set.invariant size) (c.in_ok-take_set.ensures size)
 
 pub returns : goal.returns
 returns c = λ size.

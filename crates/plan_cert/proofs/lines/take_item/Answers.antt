@@ -34,8 +34,8 @@ returns-then-not-take c = λ size.
       next_number c.args.lines.now c.take.new.self c.taken-line.result c.taken-line.ensures.taken (c.take.ensures.kept c.if-not-take.true),
       text_refused b c.args.ranks.now size 5 _ c.deref.result.now
           (written b.mesh c.args.item (item_at b c.args.item) (plan_in c.args.plans.now c.args.item).exchange _ c.deref.result.now
-              c.clear.new.self.items c.put_item_at.new.out.items c.clear.ensures.items c.in_ok-put_item_at.ensures
-              (c.requires.plans.each c.args.item c.requires.item).exchange c.deref.ensures.value)
+          c.clear.new.self.items c.put_item_at.new.out.items c.clear.ensures.items c.in_ok-put_item_at.ensures
+          (c.requires.plans.each c.args.item c.requires.item).exchange c.deref.ensures.value)
           c.args.lines.now (c.take.ensures.other c.if-not-take.true),
     )
 
@@ -44,6 +44,6 @@ returns c = λ size.
     let b = bound_of c.args.bound.now in
     text_taken b c.args.ranks.now size 5 _ c.deref.result.now
     (written b.mesh c.args.item (item_at b c.args.item) (plan_in c.args.plans.now c.args.item).exchange _ c.deref.result.now
-        c.clear.new.self.items c.put_item_at.new.out.items c.clear.ensures.items c.in_ok-put_item_at.ensures
-        (c.requires.plans.each c.args.item c.requires.item).exchange c.deref.ensures.value)
+    c.clear.new.self.items c.put_item_at.new.out.items c.clear.ensures.items c.in_ok-put_item_at.ensures
+    (c.requires.plans.each c.args.item c.requires.item).exchange c.deref.ensures.value)
     c.args.lines.now c.take.new.self (c.take.ensures.taken c.if-not-take.false)

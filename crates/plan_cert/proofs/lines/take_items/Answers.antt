@@ -13,13 +13,13 @@ returns-in_err-take_item c = λ size.
     let b = bound_of c.args.bound.now in
     passed_on b c.args.ranks.now size (awaited_items b c.args.ranks.now) c.args.lines.now _ (λ _. []) c.from_residual.result c.in_err-take_item.field-0.0 c.from_residual.ensures.1
     (refused_at b c.args.ranks.now size (λ k. awaited_item b c.args.ranks.now k ∷ []) c.loop-item.item (length b.trace) c.args.lines.now
-        c.loop-item.lines [] c.in_err-take_item.field-0.0 (omega arith) (c.loop-item.invariant size) (c.in_err-take_item.ensures size))
+    c.loop-item.lines [] c.in_err-take_item.field-0.0 (omega arith) (c.loop-item.invariant size) (c.in_err-take_item.ensures size))
 
 pub loop-item-preserved : goal.loop-item-preserved
 loop-item-preserved c = λ size.
     let b = bound_of c.args.bound.now in
     fits_more b c.args.ranks.now size (λ k. awaited_item b c.args.ranks.now k ∷ []) c.loop-item.item c.args.lines.now c.loop-item.lines
-        c.take_item.new.lines [] [] (c.loop-item.invariant size) (c.in_ok-take_item.ensures size)
+    c.take_item.new.lines [] [] (c.loop-item.invariant size) (c.in_ok-take_item.ensures size)
 
 pub returns : goal.returns
 returns c = λ size.

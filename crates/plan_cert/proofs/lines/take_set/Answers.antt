@@ -13,14 +13,14 @@ returns-in_err-take_halo c = λ size.
     let b = bound_of c.args.bound.now in
     passed_on b c.args.ranks.now size (awaited_set b c.args.ranks.now c.args.set) c.args.lines.now _ (λ _. []) c.from_residual.result c.in_err-take_halo.field-0.0 c.from_residual.ensures.1
     (refused_at b c.args.ranks.now size (λ r. awaited_halo b c.args.ranks.now c.args.set r ∷ []) c.loop-rank.rank (length c.args.ranks.now)
-        c.args.lines.now c.loop-rank.lines [] c.in_err-take_halo.field-0.0 (omega arith) (c.loop-rank.invariant size)
-        (c.in_err-take_halo.ensures size))
+    c.args.lines.now c.loop-rank.lines [] c.in_err-take_halo.field-0.0 (omega arith) (c.loop-rank.invariant size)
+    (c.in_err-take_halo.ensures size))
 
 pub loop-rank-preserved : goal.loop-rank-preserved
 loop-rank-preserved c = λ size.
     let b = bound_of c.args.bound.now in
     fits_more b c.args.ranks.now size (λ r. awaited_halo b c.args.ranks.now c.args.set r ∷ []) c.loop-rank.rank c.args.lines.now
-        c.loop-rank.lines c.take_halo.new.lines [] [] (c.loop-rank.invariant size) (c.in_ok-take_halo.ensures size)
+    c.loop-rank.lines c.take_halo.new.lines [] [] (c.loop-rank.invariant size) (c.in_ok-take_halo.ensures size)
 
 pub returns : goal.returns
 returns c = λ size.

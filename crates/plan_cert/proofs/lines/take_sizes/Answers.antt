@@ -43,8 +43,8 @@ returns-then-not-take-clause-judged c = λ b meshes count size. (
       (front_is c.args.ranks c.new-text.result.items c.put_sizes_front.new.text.items c.deref.result.now c.new-text.ensures.items c.in_ok-put_sizes_front.ensures c.deref.ensures.value)
       c.told_number.ensures c.in-Some.size c.deref-2.result.now c.in-Some.is
       (text_is c.args.ranks c.in-Some.size c.deref.result.now c.put_sizes_front.new.text.items c.put_u64.new.out.items
-          c.extend_from_slice.new.self.items c.deref-2.result.now c.deref.ensures.value c.in_ok-put_u64.ensures.ok
-          c.in_ok-extend_from_slice.ensures.items c.deref-2.ensures.value)
+      c.extend_from_slice.new.self.items c.deref-2.result.now c.deref.ensures.value c.in_ok-put_u64.ensures.ok
+      c.in_ok-extend_from_slice.ensures.items c.deref-2.ensures.value)
       (c.take.ensures.other c.if-not-take.true) size,
 )
 
@@ -54,6 +54,6 @@ returns-clause-judged c = λ b meshes count.
     (front_is c.args.ranks c.new-text.result.items c.put_sizes_front.new.text.items c.deref.result.now c.new-text.ensures.items c.in_ok-put_sizes_front.ensures c.deref.ensures.value)
     c.told_number.ensures c.in-Some.size c.deref-2.result.now c.take.new.self (omega arith) (omega arith)
     (text_is c.args.ranks c.in-Some.size c.deref.result.now c.put_sizes_front.new.text.items c.put_u64.new.out.items
-        c.extend_from_slice.new.self.items c.deref-2.result.now c.deref.ensures.value c.in_ok-put_u64.ensures.ok
-        c.in_ok-extend_from_slice.ensures.items c.deref-2.ensures.value)
+    c.extend_from_slice.new.self.items c.deref-2.result.now c.deref.ensures.value c.in_ok-put_u64.ensures.ok
+    c.in_ok-extend_from_slice.ensures.items c.deref-2.ensures.value)
     (c.take.ensures.taken c.if-not-take.false)

@@ -29,8 +29,8 @@ returns-in_default-2-clause-judged c = (
       (get_or c.args.of.now.places.now c.args.rank 0) (c.requires.places c.args.rank c.requires.rank) c.args.lines.now c.next.new.self
       c.in-Some.line.now c.deref.result.now c.count.result
       c.in-Some.ensures (front_written c.args.of.now.site c.args.rank (get_or c.args.of.now.places.now c.args.rank 0)
-          c.new-front.result.items c.put_site_front.new.text.items c.deref.result.now c.new-front.ensures.items
-          c.in_ok-put_site_front.ensures c.deref.ensures.value) c.count.ensures
+      c.new-front.result.items c.put_site_front.new.text.items c.deref.result.now c.new-front.ensures.items
+      c.in_ok-put_site_front.ensures c.deref.ensures.value) c.count.ensures
       (subst (LineIs c.deref.result.now c.in-Some.line.now c.count.result (get_or c.args.of.now.places.now c.args.rank 0)) c.in_default-2.is c.in_ok-colours.ensures),
 )
 
@@ -44,7 +44,7 @@ find_clash-requires-clause-rank c =
 pub find_clash-requires-clause-args : goal.find_clash-requires-clause-args
 find_clash-requires-clause-args c =
     args_are (bound_of c.args.bound.now) c.args.ranks.now c.requires.fits c.args.of.now.site c.args.rank
-        c.index-ranks-rank.result.sets.items (get_or c.args.of.now.places.now c.args.rank 0) c.args.of.now.args.now c.requires.site
+    c.index-ranks-rank.result.sets.items (get_or c.args.of.now.places.now c.args.rank 0) c.args.of.now.args.now c.requires.site
     (ap (λ (z : RankMesh). z.sets.items) c.index-ranks-rank.is ∙ sets_at c.args.ranks.now c.args.rank c.index-ranks-rank.result c.requires.rank)
     (c.requires.places c.args.rank c.requires.rank) c.requires.args
 
@@ -53,16 +53,16 @@ returns-in-None-clause-judged c = colours_taken (bound_of c.args.bound.now) c.ar
     c.args.rank (get_or c.args.of.now.places.now c.args.rank 0) (c.requires.places c.args.rank c.requires.rank)
     c.args.lines.now c.next.new.self c.in-Some.line.now c.deref.result.now c.count.result c.in-Some-2.colours c.in-Some.ensures
     (front_written c.args.of.now.site c.args.rank (get_or c.args.of.now.places.now c.args.rank 0) c.new-front.result.items
-        c.put_site_front.new.text.items c.deref.result.now c.new-front.ensures.items c.in_ok-put_site_front.ensures c.deref.ensures.value)
-        c.count.ensures
+    c.put_site_front.new.text.items c.deref.result.now c.new-front.ensures.items c.in_ok-put_site_front.ensures c.deref.ensures.value)
+    c.count.ensures
     (subst (LineIs c.deref.result.now c.in-Some.line.now c.count.result (get_or c.args.of.now.places.now c.args.rank 0)) c.in-Some-2.is c.in_ok-colours.ensures)
     (clash_moved c.args.bound.now.mesh c.index-ranks-rank.result.maps.items (maps_of c.args.ranks.now c.args.rank) c.args.of.now.args.now
-        (reducing (site_at (bound_of c.args.bound.now) c.args.of.now.site).args)
+    (reducing (site_at (bound_of c.args.bound.now) c.args.of.now.site).args)
     (get_or c.args.of.now.places.now c.args.rank 0) (places_in (bound_of c.args.bound.now) c.args.ranks.now c.args.of.now.site c.args.rank)
-        c.args.of.now.size c.in-Some-2.colours.blocks.items c.in-Some-2.colours.inner.items c.in_ok-find_clash.field-0 None
+    c.args.of.now.size c.in-Some-2.colours.blocks.items c.in-Some-2.colours.inner.items c.in_ok-find_clash.field-0 None
     (ap (λ (z : RankMesh). z.maps.items) c.index-ranks-rank.is
-        ∙ maps_at c.args.ranks.now c.args.rank c.index-ranks-rank.result c.requires.rank) c.requires.args
-        (c.requires.places c.args.rank c.requires.rank)
+    ∙ maps_at c.args.ranks.now c.args.rank c.index-ranks-rank.result c.requires.rank) c.requires.args
+    (c.requires.places c.args.rank c.requires.rank)
     c.in-None.is c.in_ok-find_clash.ensures)
 
 pub returns-in-None-clause-separate : goal.returns-in-None-clause-separate
@@ -70,16 +70,16 @@ returns-in-None-clause-separate c = are_separate (bound_of c.args.bound.now) c.a
     c.args.rank (get_or c.args.of.now.places.now c.args.rank 0) (c.requires.places c.args.rank c.requires.rank)
     c.args.lines.now c.next.new.self c.in-Some.line.now c.deref.result.now c.count.result c.in-Some-2.colours c.in-Some.ensures
     (front_written c.args.of.now.site c.args.rank (get_or c.args.of.now.places.now c.args.rank 0) c.new-front.result.items
-        c.put_site_front.new.text.items c.deref.result.now c.new-front.ensures.items c.in_ok-put_site_front.ensures c.deref.ensures.value)
-        c.count.ensures
+    c.put_site_front.new.text.items c.deref.result.now c.new-front.ensures.items c.in_ok-put_site_front.ensures c.deref.ensures.value)
+    c.count.ensures
     (subst (LineIs c.deref.result.now c.in-Some.line.now c.count.result (get_or c.args.of.now.places.now c.args.rank 0)) c.in-Some-2.is c.in_ok-colours.ensures)
     (clash_moved c.args.bound.now.mesh c.index-ranks-rank.result.maps.items (maps_of c.args.ranks.now c.args.rank) c.args.of.now.args.now
-        (reducing (site_at (bound_of c.args.bound.now) c.args.of.now.site).args)
+    (reducing (site_at (bound_of c.args.bound.now) c.args.of.now.site).args)
     (get_or c.args.of.now.places.now c.args.rank 0) (places_in (bound_of c.args.bound.now) c.args.ranks.now c.args.of.now.site c.args.rank)
-        c.args.of.now.size c.in-Some-2.colours.blocks.items c.in-Some-2.colours.inner.items c.in_ok-find_clash.field-0 None
+    c.args.of.now.size c.in-Some-2.colours.blocks.items c.in-Some-2.colours.inner.items c.in_ok-find_clash.field-0 None
     (ap (λ (z : RankMesh). z.maps.items) c.index-ranks-rank.is
-        ∙ maps_at c.args.ranks.now c.args.rank c.index-ranks-rank.result c.requires.rank) c.requires.args
-        (c.requires.places c.args.rank c.requires.rank)
+    ∙ maps_at c.args.ranks.now c.args.rank c.index-ranks-rank.result c.requires.rank) c.requires.args
+    (c.requires.places c.args.rank c.requires.rank)
     c.in-None.is c.in_ok-find_clash.ensures)
 
 pub returns-in-Some-Blocks-clause-judged : goal.returns-in-Some-Blocks-clause-judged
@@ -90,17 +90,17 @@ returns-in-Some-Blocks-clause-judged c = (
       (get_or c.args.of.now.places.now c.args.rank 0) (c.requires.places c.args.rank c.requires.rank)
       c.args.lines.now c.next.new.self c.in-Some.line.now c.deref.result.now c.count.result c.in-Some-2.colours c.in-Some.ensures
       (front_written c.args.of.now.site c.args.rank (get_or c.args.of.now.places.now c.args.rank 0) c.new-front.result.items
-          c.put_site_front.new.text.items c.deref.result.now c.new-front.ensures.items c.in_ok-put_site_front.ensures c.deref.ensures.value)
-          c.count.ensures
+      c.put_site_front.new.text.items c.deref.result.now c.new-front.ensures.items c.in_ok-put_site_front.ensures c.deref.ensures.value)
+      c.count.ensures
       (subst (LineIs c.deref.result.now c.in-Some.line.now c.count.result (get_or c.args.of.now.places.now c.args.rank 0)) c.in-Some-2.is c.in_ok-colours.ensures)
       (clash_moved c.args.bound.now.mesh c.index-ranks-rank.result.maps.items (maps_of c.args.ranks.now c.args.rank) c.args.of.now.args.now
-          (reducing (site_at (bound_of c.args.bound.now) c.args.of.now.site).args)
+      (reducing (site_at (bound_of c.args.bound.now) c.args.of.now.site).args)
       (get_or c.args.of.now.places.now c.args.rank 0)
-          (places_in (bound_of c.args.bound.now) c.args.ranks.now c.args.of.now.site c.args.rank) c.args.of.now.size
-          c.in-Some-2.colours.blocks.items c.in-Some-2.colours.inner.items c.in_ok-find_clash.field-0 (Some Blocks)
+      (places_in (bound_of c.args.bound.now) c.args.ranks.now c.args.of.now.site c.args.rank) c.args.of.now.size
+      c.in-Some-2.colours.blocks.items c.in-Some-2.colours.inner.items c.in_ok-find_clash.field-0 (Some Blocks)
       (ap (λ (z : RankMesh). z.maps.items) c.index-ranks-rank.is
-          ∙ maps_at c.args.ranks.now c.args.rank c.index-ranks-rank.result c.requires.rank) c.requires.args
-          (c.requires.places c.args.rank c.requires.rank)
+      ∙ maps_at c.args.ranks.now c.args.rank c.index-ranks-rank.result c.requires.rank) c.requires.args
+      (c.requires.places c.args.rank c.requires.rank)
       (c.in-Some-Blocks.is ∙ ap Some c.in-Some-Blocks.field-0-is) c.in_ok-find_clash.ensures),
 )
 
@@ -112,16 +112,16 @@ returns-clause-judged c = (
       (get_or c.args.of.now.places.now c.args.rank 0) (c.requires.places c.args.rank c.requires.rank)
       c.args.lines.now c.next.new.self c.in-Some.line.now c.deref.result.now c.count.result c.in-Some-2.colours c.in-Some.ensures
       (front_written c.args.of.now.site c.args.rank (get_or c.args.of.now.places.now c.args.rank 0) c.new-front.result.items
-          c.put_site_front.new.text.items c.deref.result.now c.new-front.ensures.items c.in_ok-put_site_front.ensures c.deref.ensures.value)
-          c.count.ensures
+      c.put_site_front.new.text.items c.deref.result.now c.new-front.ensures.items c.in_ok-put_site_front.ensures c.deref.ensures.value)
+      c.count.ensures
       (subst (LineIs c.deref.result.now c.in-Some.line.now c.count.result (get_or c.args.of.now.places.now c.args.rank 0)) c.in-Some-2.is c.in_ok-colours.ensures)
       (clash_moved c.args.bound.now.mesh c.index-ranks-rank.result.maps.items (maps_of c.args.ranks.now c.args.rank) c.args.of.now.args.now
-          (reducing (site_at (bound_of c.args.bound.now) c.args.of.now.site).args)
+      (reducing (site_at (bound_of c.args.bound.now) c.args.of.now.site).args)
       (get_or c.args.of.now.places.now c.args.rank 0)
-          (places_in (bound_of c.args.bound.now) c.args.ranks.now c.args.of.now.site c.args.rank) c.args.of.now.size
-          c.in-Some-2.colours.blocks.items c.in-Some-2.colours.inner.items c.in_ok-find_clash.field-0 (Some Places)
+      (places_in (bound_of c.args.bound.now) c.args.ranks.now c.args.of.now.site c.args.rank) c.args.of.now.size
+      c.in-Some-2.colours.blocks.items c.in-Some-2.colours.inner.items c.in_ok-find_clash.field-0 (Some Places)
       (ap (λ (z : RankMesh). z.maps.items) c.index-ranks-rank.is
-          ∙ maps_at c.args.ranks.now c.args.rank c.index-ranks-rank.result c.requires.rank) c.requires.args
-          (c.requires.places c.args.rank c.requires.rank)
+      ∙ maps_at c.args.ranks.now c.args.rank c.index-ranks-rank.result c.requires.rank) c.requires.args
+      (c.requires.places c.args.rank c.requires.rank)
       (c.in-Some-Places.is ∙ ap Some c.in-Some-Places.field-0-is) c.in_ok-find_clash.ensures),
 )

@@ -21,9 +21,9 @@ returns-in_err-plan-clause-judged c =
     let m : k < length c.in_ok-runs.runs.items = omega (arith, c.in_ok-runs.ensures.count) in
     let runs = runs_read c.in_ok-runs.runs.items (runs_free b) k c.index.result.now true m c.index.ensures c.in_ok-runs.ensures.runs c.if-index.true in
     passed_on b meshes c.args.size (awaited_sites b meshes (length b.sites)) c.args.lines.now _ (λ v. colours_in (entries_of v))
-        c.from_residual-in_err-plan.result c.in_err-plan.field-0.0 c.from_residual-in_err-plan.ensures.1
+    c.from_residual-in_err-plan.result c.in_err-plan.field-0.0 c.from_residual-in_err-plan.ensures.1
     (loop_refused b meshes c.args.size k (length b.sites) c.args.lines.now c.loop-site.lines (colours_in (entries_of c.loop-site.plans))
-        c.in_err-plan.field-0.0 l runs c.loop-site.invariant.judged c.in_err-plan.ensures.judged)
+    c.in_err-plan.field-0.0 l runs c.loop-site.invariant.judged c.in_err-plan.ensures.judged)
 
 pub add-requires : goal.add-requires
 add-requires c =

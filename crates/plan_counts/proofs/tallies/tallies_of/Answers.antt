@@ -48,8 +48,8 @@ loop-item-preserved c =
       rest = λ s.
           (let done = subst (λ t. tally_in new s ≡ plus (tally_in old s) (run_tally s c.run_at-run.result (item_plan_of i) (sent_by b.mesh t (item_plan_of i)))) c.deref.ensures.value
           (subst (λ (l : List Tally). tally_in new s ≡ plus (tally_in l s)
-              (run_tally s c.run_at-run.result (item_plan_of i) (sent_by b.mesh c.deref.result.now (item_plan_of i))))
-              c.deref_mut.ensures.value
+          (run_tally s c.run_at-run.result (item_plan_of i) (sent_by b.mesh c.deref.result.now (item_plan_of i))))
+          c.deref_mut.ensures.value
           (c.in_ok-count_item.ensures.tallies s)) in
           item_counted b c.args.ranks.now s b.trace p.items k (tally_in old s) (tally_in new s) (items_tally b c.args.ranks.now s b.trace p.items)
           c.run_at-run.result (item_plan_of i) (sent_by b.mesh imports (item_plan_of i)) lt lp (run_read b k c.run_at-run.result c.run_at-run.ensures) here same done (c.loop-item.invariant.rest s));

@@ -17,7 +17,7 @@ put_targets-requires-clause-takes g c = (
 pub job-job-requires-clause-takes : goal.job-job-requires-clause-takes
 job-job-requires-clause-takes g c =
     subst (λ ts. (i : ℕ) → i < length ts → Takes c.args.program.now c.args.group.now.item (task_at ts i).element
-        (length c.args.constants.now) (task_at ts i).cells) (sym c.deref-2.ensures.value) c.requires.takes
+    (length c.args.constants.now) (task_at ts i).cells) (sym c.deref-2.ensures.value) c.requires.takes
 
 pub job-job-requires-clause-targeted : goal.job-job-requires-clause-targeted
 job-job-requires-clause-targeted g c =
@@ -44,22 +44,22 @@ returns-clause-ran g c i lt =
     let there : i < length c.job-job.result.tasks.now = subst (λ ts. i < length ts) (sym tasks) lt in
     let kept = c.run_in_front.auto.staging ∙ ap length c.deref_mut.ensures.value in
     let ends : i * c.args.buffers.now.window + c.args.buffers.now.window ≤ length c.args.buffers.now.tasks.items *
-        c.args.buffers.now.window = part_ends c.args.buffers.now.window i (length c.args.buffers.now.tasks.items) lt in
+    c.args.buffers.now.window = part_ends c.args.buffers.now.window i (length c.args.buffers.now.tasks.items) lt in
     let inside : i * c.args.buffers.now.window + c.args.buffers.now.window ≤ length c.args.buffers.now.staging.items = omega (arith, ends, c.requires.buffers.staging_fits) in
     let narrow : (task_at c.args.buffers.now.tasks.items i).cells ≤ c.args.buffers.now.window = omega (arith, c.requires.narrow i lt, c.requires.buffers.window_fits) in
     let count : length (take (task_at c.args.buffers.now.tasks.items i).cells
-        (part c.args.buffers.now.window i c.args.buffers.now.staging.items)) ≡ (task_at c.args.buffers.now.tasks.items i).cells =
-        grind (arith, common_steps) in
+    (part c.args.buffers.now.window i c.args.buffers.now.staging.items)) ≡ (task_at c.args.buffers.now.tasks.items i).cells =
+    grind (arith, common_steps) in
     let counted = count ∙ ap (λ ts. (task_at ts i).cells) (sym c.deref-2.ensures.value) in
     let ran = subst (λ s. RanIn (job_core c.job-job.result i (take cells (part window i s))) cells (part window i after)) c.deref_mut.ensures.value
     (subst (λ ts. RanIn (job_core c.job-job.result i (take (task_at ts i).cells (part window i c.deref_mut.result.now)))
-        (task_at ts i).cells (part window i after)) tasks (c.run_in_front.ensures i there)) in
+    (task_at ts i).cells (part window i after)) tasks (c.run_in_front.ensures i there)) in
     let core = c.job-job.ensures.core i (take cells (part window i before.items)) here counted in
     let value = subst (λ ws. RanIn ws cells (part window i after)) core ran in
     subst (λ ts. RanIn ((layout_in c.args.program.now).core c.args.group.now.item (task_at ts i).element c.args.constants.now
-        (take cells (part window i before.items))) cells (part window i (with_items before after).items)) c.deref-2.ensures.value
+    (take cells (part window i before.items))) cells (part window i (with_items before after).items)) c.deref-2.ensures.value
     (subst (λ s. RanIn ((layout_in c.args.program.now).core c.args.group.now.item (task_at c.deref-2.result.now i).element
-        c.args.constants.now (take cells (part window i before.items))) cells (part window i s)) (sym (refilled before after kept)) value)
+    c.args.constants.now (take cells (part window i before.items))) cells (part window i s)) (sym (refilled before after kept)) value)
 
 pub returns-clause-kept : goal.returns-clause-kept
 returns-clause-kept g c =

@@ -14,5 +14,5 @@ returns g c i lt =
     let kept : length c.run_tasks.new.staging ≡ length c.args.job.now.tasks.now * c.args.window = grind (arith, common_steps) in
     subst (λ w. RanIn (job_core c.args.job.now i (take cells w)) cells (part window i (after ++ drop whole c.args.staging.now))) (part_of_front window i whole c.args.staging.now ends)
     (subst (RanIn (job_core c.args.job.now i (take cells (part window i (take whole c.args.staging.now)))) cells)
-        (sym (part_of_longer window i after (drop whole c.args.staging.now) (omega (arith, ends, kept))))
+    (sym (part_of_longer window i after (drop whole c.args.staging.now) (omega (arith, ends, kept))))
     (c.run_tasks.ensures i lt))

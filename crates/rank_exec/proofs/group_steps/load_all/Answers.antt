@@ -22,7 +22,7 @@ pub loop-place-preserved : goal.loop-place-preserved
 loop-place-preserved c = record {
   loaded =
       one_more (λ i task w. IsLoaded (setup_in c.args.program.now) (layout_in c.args.program.now) (tables_in c.args.program.now)
-          c.args.group.now.item c.args.group.now.rank (get_or c.args.group.now.places.now i 0) c.args.machine.now task w)
+      c.args.group.now.item c.args.group.now.rank (get_or c.args.group.now.places.now i 0) c.args.machine.now task w)
       c.loop-place.place-index c.loop-place.buffers c.load_next.new.buffers c.loop-place.invariant.count c.loop-place.invariant.loaded c.load_next.ensures.loaded c.load_next.ensures.others;
   count = omega (arith, c.load_next.ensures.count, c.loop-place.invariant.count);
   space = c.load_next.ensures.space;

@@ -22,35 +22,35 @@ loop-i-preserved c =
     let shut = subst (AllShut c.loop-i.machine.frames.panes c.args.group.now.rank) e c.loop-i.invariant.shut in
     let distinct = subst Distinct e c.loop-i.invariant.distinct in
     let next : begins c.args.group.now.item c.args.group.now.rank (take (c.loop-i.i + 1) c.args.group.now.places.now) ≡ begins
-        c.args.group.now.item c.args.group.now.rank (take c.loop-i.i c.args.group.now.places.now) ++
-        (Begin c.args.group.now.item c.args.group.now.rank (get_or c.args.group.now.places.now c.loop-i.i 0) ∷ []) =
+    c.args.group.now.item c.args.group.now.rank (take c.loop-i.i c.args.group.now.places.now) ++
+    (Begin c.args.group.now.item c.args.group.now.rank (get_or c.args.group.now.places.now c.loop-i.i 0) ∷ []) =
     ap (begins c.args.group.now.item c.args.group.now.rank) (take_next c.args.group.now.places.now c.loop-i.i 0 c.loop-i-test.true)
-        ∙ begins_push c.args.group.now.item c.args.group.now.rank (take c.loop-i.i c.args.group.now.places.now)
-        (get_or c.args.group.now.places.now c.loop-i.i 0) in
+    ∙ begins_push c.args.group.now.item c.args.group.now.rank (take c.loop-i.i c.args.group.now.places.now)
+    (get_or c.args.group.now.places.now c.loop-i.i 0) in
     let before = c.loop-i.invariant.shows c.requires.shows.0 c.requires.shows.1 in
     record {
       planned = planned.1;
       shut = still_shut c.loop-i.machine.frames.panes c.open_one.new.machine.frames.panes c.args.group.now.rank
           (get_or c.args.group.now.places.now c.loop-i.i 0) (drop (c.loop-i.i + 1) c.args.group.now.places.now) distinct.0
           (λ y ne closed. c.begin_opens.ensures.others (setup_in c.args.program.now) (layout_in c.args.program.now)
-              (tables_in c.args.program.now) c.loop-i.machine c.open_one.new.machine
-              (flat_from (setup_in c.args.program.now) (layout_in c.args.program.now)
-              (begins c.args.group.now.item c.args.group.now.rank (take c.loop-i.i c.args.group.now.places.now)) c.requires.shows.0)
-              c.args.group.now.item c.args.group.now.rank (get_or c.args.group.now.places.now c.loop-i.i 0) y before
-              (c.open_one.ensures.shows (flat_from (setup_in c.args.program.now) (layout_in c.args.program.now)
-              (begins c.args.group.now.item c.args.group.now.rank (take c.loop-i.i c.args.group.now.places.now)) c.requires.shows.0) before)
-              ne closed)
+          (tables_in c.args.program.now) c.loop-i.machine c.open_one.new.machine
+          (flat_from (setup_in c.args.program.now) (layout_in c.args.program.now)
+          (begins c.args.group.now.item c.args.group.now.rank (take c.loop-i.i c.args.group.now.places.now)) c.requires.shows.0)
+          c.args.group.now.item c.args.group.now.rank (get_or c.args.group.now.places.now c.loop-i.i 0) y before
+          (c.open_one.ensures.shows (flat_from (setup_in c.args.program.now) (layout_in c.args.program.now)
+          (begins c.args.group.now.item c.args.group.now.rank (take c.loop-i.i c.args.group.now.places.now)) c.requires.shows.0) before)
+          ne closed)
           shut.1;
       distinct = distinct.1;
       shows = λ f h.
           let at = c.loop-i.invariant.shows f h in
           subst (Shows (setup_in c.args.program.now) (layout_in c.args.program.now) (tables_in c.args.program.now) c.open_one.new.machine)
-              (sym (ap (λ z. flat_from (setup_in c.args.program.now) (layout_in c.args.program.now) z f) next
-              ∙ from_push (setup_in c.args.program.now) (layout_in c.args.program.now)
-              (begins c.args.group.now.item c.args.group.now.rank (take c.loop-i.i c.args.group.now.places.now))
-              (Begin c.args.group.now.item c.args.group.now.rank (get_or c.args.group.now.places.now c.loop-i.i 0)) f at.stop))
+          (sym (ap (λ z. flat_from (setup_in c.args.program.now) (layout_in c.args.program.now) z f) next
+          ∙ from_push (setup_in c.args.program.now) (layout_in c.args.program.now)
+          (begins c.args.group.now.item c.args.group.now.rank (take c.loop-i.i c.args.group.now.places.now))
+          (Begin c.args.group.now.item c.args.group.now.rank (get_or c.args.group.now.places.now c.loop-i.i 0)) f at.stop))
           (c.open_one.ensures.shows (flat_from (setup_in c.args.program.now) (layout_in c.args.program.now)
-              (begins c.args.group.now.item c.args.group.now.rank (take c.loop-i.i c.args.group.now.places.now)) f) at);
+          (begins c.args.group.now.item c.args.group.now.rank (take c.loop-i.i c.args.group.now.places.now)) f) at);
       space = c.open_one.ensures.space;
       mail = c.open_one.ensures.mail ∙ c.loop-i.invariant.mail;
       frames = (let m = c.open_one.ensures.frames in omega (arith, c.loop-i.invariant.frames));
@@ -65,12 +65,12 @@ open_one-requires-clause-ran c =
     let in_tasks : c.loop-i.i < length c.args.buffers.now.tasks.items = omega (arith, i_lt, c.requires.count) in
     let task : c.index.result.now ≡ task_at c.args.buffers.now.tasks.items c.loop-i.i = get_or_read c.args.buffers.now.tasks.items c.loop-i.i c.index.result.now in_tasks c.index.ensures no_task in
     let ran = run_later (setup_in c.args.program.now) (layout_in c.args.program.now) (tables_in c.args.program.now) c.args.group.now.item
-        c.args.group.now.rank (get_or c.args.group.now.places.now c.loop-i.i 0) (task_at c.args.buffers.now.tasks.items c.loop-i.i).cells
-        (part c.args.buffers.now.window c.loop-i.i c.args.buffers.now.staging.items) (take c.loop-i.i c.args.group.now.places.now)
-        c.args.machine.now c.loop-i.machine
+    c.args.group.now.rank (get_or c.args.group.now.places.now c.loop-i.i 0) (task_at c.args.buffers.now.tasks.items c.loop-i.i).cells
+    (part c.args.buffers.now.window c.loop-i.i c.args.buffers.now.staging.items) (take c.loop-i.i c.args.group.now.places.now)
+    c.args.machine.now c.loop-i.machine
     c.requires.shows.0 c.requires.shows.1 (c.loop-i.invariant.shows c.requires.shows.0 c.requires.shows.1) (c.requires.ran c.loop-i.i i_lt) in
     let Ran = λ (n : ℕ) (w : List ℤ). IsRun (setup_in c.args.program.now) (layout_in c.args.program.now) (tables_in c.args.program.now)
-        c.args.group.now.item c.args.group.now.rank (get_or c.args.group.now.places.now c.loop-i.i 0) c.loop-i.machine n w in
+    c.args.group.now.item c.args.group.now.rank (get_or c.args.group.now.places.now c.loop-i.i 0) c.loop-i.machine n w in
     subst (λ (t : Task). Ran t.cells (take (at + window - at) (drop at c.deref.result.now))) (sym task)
     (subst (λ n. Ran (task_at c.args.buffers.now.tasks.items c.loop-i.i).cells (take n (drop at c.deref.result.now))) (sym wide)
     (subst (λ s. Ran (task_at c.args.buffers.now.tasks.items c.loop-i.i).cells (take window (drop at s))) (sym c.deref.ensures.value) ran))

@@ -14,17 +14,17 @@ opened_as : (c : goal.After-open) → c.open.new.self ≡ begun (layout_in c.arg
 opened_as c =
     c.open.ensures ((layout_in c.args.program.now).original c.args.begin.item c.args.begin.rank c.args.begin.place)
     ∙ ap (λ ran. begun_as c.args.begin.item c.args.begin.rank c.args.begin.place
-        ((layout_in c.args.program.now).original c.args.begin.item c.args.begin.rank c.args.begin.place) ran c.args.machine.now)
-        (sym (c.requires.ran.left (c.is_zero.ensures c.if-is_zero.true)))
+    ((layout_in c.args.program.now).original c.args.begin.item c.args.begin.rank c.args.begin.place) ran c.args.machine.now)
+    (sym (c.requires.ran.left (c.is_zero.ensures c.if-is_zero.true)))
 
 pub returns-then-is_zero-clause-shows : goal.returns-then-is_zero-clause-shows
 returns-then-is_zero-clause-shows c f h =
     subst (λ (s : State KernelFault). Shows (setup_in c.args.program.now) (layout_in c.args.program.now) (tables_in c.args.program.now) s
-        (flat_step (setup_in c.args.program.now) (layout_in c.args.program.now)
-        (Begin c.args.begin.item c.args.begin.rank c.args.begin.place) f)) (sym (opened_as c))
+    (flat_step (setup_in c.args.program.now) (layout_in c.args.program.now)
+    (Begin c.args.begin.item c.args.begin.rank c.args.begin.place) f)) (sym (opened_as c))
     (c.begin_shows.ensures (setup_in c.args.program.now) (layout_in c.args.program.now) (tables_in c.args.program.now)
-        c.requires.sound.indexed c.requires.sound.layout c.args.begin.item c.args.begin.rank c.args.begin.place c.requires.planned
-        c.requires.ran.spans c.requires.ran.scalars c.requires.ran.are c.args.machine.now f h c.requires.shut)
+    c.requires.sound.indexed c.requires.sound.layout c.args.begin.item c.args.begin.rank c.args.begin.place c.requires.planned
+    c.requires.ran.spans c.requires.ran.scalars c.requires.ran.are c.args.machine.now f h c.requires.shut)
 
 pub returns-then-is_zero-clause-mail : goal.returns-then-is_zero-clause-mail
 returns-then-is_zero-clause-mail c = ap (λ (s : State KernelFault). s.mail.left) (opened_as c)

@@ -14,6 +14,6 @@ returns c =
     (c.owners_show.ensures.cells (setup_in c.args.program.now) (layout_in c.args.program.now) (tables_in c.args.program.now) c.requires.sound.indexed c.args.machine.now f h o own.rank own.inside
     (owner_there (program_in c.args.program.now) (setup_in c.args.program.now) (layout_in c.args.program.now) (tables_in c.args.program.now) (refl) c.args.dat c.args.element c.requires.element o own)
     ∙ ap (map (owned (setup_in c.args.program.now) (layout_in c.args.program.now) f))
-        (row_is (program_in c.args.program.now) ((layout_in c.args.program.now).cell_at o.rank) c.args.dat c.args.element o.at o.dim own.dim
-        own.cells)))
+    (row_is (program_in c.args.program.now) ((layout_in c.args.program.now).cell_at o.rank) c.args.dat c.args.element o.at o.dim own.dim
+    own.cells)))
     c.push_owned.ensures

@@ -19,75 +19,75 @@ pub act-requires-clause-fits : goal.act-requires-clause-fits
 act-requires-clause-fits c =
     subst (λ vs. ActFits (of_vars vs) (told_act_of c.args.act.now)) (sym (ap (map var_of) c.deref.ensures.value))
     (plain_fits (program_in c.args.program.now) (told_act_of c.args.act.now) c.requires.plain
-        (subst (ActFits (program_in c.args.program.now)) (ap act_in c.requires.is)
-        (c.items_are_there.ensures.acts (program_in c.args.program.now) c.args.item c.requires.sound.planned.fits)))
+    (subst (ActFits (program_in c.args.program.now)) (ap act_in c.requires.is)
+    (c.items_are_there.ensures.acts (program_in c.args.program.now) c.args.item c.requires.sound.planned.fits)))
 
 pub act-requires-clause-cells : goal.act-requires-clause-cells
 act-requires-clause-cells c =
     (holds (program_in c.args.program.now) (setup_in c.args.program.now) (layout_in c.args.program.now) (tables_in c.args.program.now)
-        (refl) c.requires.sound.indexed c.args.machine.now c.requires.shows.0 c.requires.shows.1 c.requires.sound.variables
-        c.variables_hold.ensures.hold (c.owners_show.ensures.variables (setup_in c.args.program.now) (layout_in c.args.program.now)
-        (tables_in c.args.program.now) c.requires.sound.indexed c.args.machine.now c.requires.shows.0 c.requires.shows.1)).length
+    (refl) c.requires.sound.indexed c.args.machine.now c.requires.shows.0 c.requires.shows.1 c.requires.sound.variables
+    c.variables_hold.ensures.hold (c.owners_show.ensures.variables (setup_in c.args.program.now) (layout_in c.args.program.now)
+    (tables_in c.args.program.now) c.requires.sound.indexed c.args.machine.now c.requires.shows.0 c.requires.shows.1)).length
     ∙ ap (λ vs. memory_length (of_vars vs)) (sym (ap (map var_of) c.deref.ensures.value))
 
 pub returns-in-Ok-clause-after : goal.returns-in-Ok-clause-after
 returns-in-Ok-clause-after c f h =
     subst (λ (z : State KernelFault). Shows (setup_in c.args.program.now) (layout_in c.args.program.now) (tables_in c.args.program.now) z
-        (flat_step (setup_in c.args.program.now) (layout_in c.args.program.now) (Join c.args.item) f)) (sym c.act.ensures.others)
+    (flat_step (setup_in c.args.program.now) (layout_in c.args.program.now) (Join c.args.item) f)) (sym c.act.ensures.others)
     (goes_on (program_in c.args.program.now) (setup_in c.args.program.now) (layout_in c.args.program.now) (tables_in c.args.program.now)
-        (refl) c.requires.sound.indexed c.args.machine.now f h c.requires.sound.variables c.variables_hold.ensures.are c.args.item
-        c.act.new.self.variables c.act.new.self.output
+    (refl) c.requires.sound.indexed c.args.machine.now f h c.requires.sound.variables c.variables_hold.ensures.are c.args.item
+    c.act.new.self.variables c.act.new.self.output
     (Unit {0}) c.in-Ok.field-0 (act_run (of_vars (program_in c.args.program.now).vars) (owned (setup_in c.args.program.now) (layout_in c.args.program.now) f) (told_act_of c.args.act.now))
     (subst (λ r. ActEnds (of_vars (program_in c.args.program.now).vars) c.act.new.self.variables
-        (owned (setup_in c.args.program.now) (layout_in c.args.program.now) f) c.args.machine.now.output c.act.new.self.output r
-        (act_run (of_vars (program_in c.args.program.now).vars) (owned (setup_in c.args.program.now) (layout_in c.args.program.now) f)
-        (told_act_of c.args.act.now))) c.in-Ok.is
-        (subst (λ vs. ActEnds (of_vars vs) c.act.new.self.variables (owned (setup_in c.args.program.now) (layout_in c.args.program.now) f)
-        c.args.machine.now.output c.act.new.self.output c.in_ok-act.field-0
-        (act_run (of_vars vs) (owned (setup_in c.args.program.now) (layout_in c.args.program.now) f) (told_act_of c.args.act.now)))
-        (ap (map var_of) c.deref.ensures.value)
-        (c.in_ok-act.ensures.ends (owned (setup_in c.args.program.now) (layout_in c.args.program.now) f)
-        (subst (λ vs. Holds (of_vars vs) c.args.machine.now.variables
-        (owned (setup_in c.args.program.now) (layout_in c.args.program.now) f)) (sym (ap (map var_of) c.deref.ensures.value))
-        (holds (program_in c.args.program.now) (setup_in c.args.program.now) (layout_in c.args.program.now) (tables_in c.args.program.now)
-        (refl) c.requires.sound.indexed c.args.machine.now f h c.requires.sound.variables c.variables_hold.ensures.hold
-        (c.owners_show.ensures.variables (setup_in c.args.program.now) (layout_in c.args.program.now) (tables_in c.args.program.now)
-        c.requires.sound.indexed c.args.machine.now f h))))))
+    (owned (setup_in c.args.program.now) (layout_in c.args.program.now) f) c.args.machine.now.output c.act.new.self.output r
+    (act_run (of_vars (program_in c.args.program.now).vars) (owned (setup_in c.args.program.now) (layout_in c.args.program.now) f)
+    (told_act_of c.args.act.now))) c.in-Ok.is
+    (subst (λ vs. ActEnds (of_vars vs) c.act.new.self.variables (owned (setup_in c.args.program.now) (layout_in c.args.program.now) f)
+    c.args.machine.now.output c.act.new.self.output c.in_ok-act.field-0
+    (act_run (of_vars vs) (owned (setup_in c.args.program.now) (layout_in c.args.program.now) f) (told_act_of c.args.act.now)))
+    (ap (map var_of) c.deref.ensures.value)
+    (c.in_ok-act.ensures.ends (owned (setup_in c.args.program.now) (layout_in c.args.program.now) f)
+    (subst (λ vs. Holds (of_vars vs) c.args.machine.now.variables
+    (owned (setup_in c.args.program.now) (layout_in c.args.program.now) f)) (sym (ap (map var_of) c.deref.ensures.value))
+    (holds (program_in c.args.program.now) (setup_in c.args.program.now) (layout_in c.args.program.now) (tables_in c.args.program.now)
+    (refl) c.requires.sound.indexed c.args.machine.now f h c.requires.sound.variables c.variables_hold.ensures.hold
+    (c.owners_show.ensures.variables (setup_in c.args.program.now) (layout_in c.args.program.now) (tables_in c.args.program.now)
+    c.requires.sound.indexed c.args.machine.now f h))))))
     (host_is (program_in c.args.program.now) (setup_in c.args.program.now) (layout_in c.args.program.now) (tables_in c.args.program.now)
-        (refl) c.args.item (told_act_of c.args.act.now) c.requires.is (owned (setup_in c.args.program.now) (layout_in c.args.program.now) f)
-        ∙ sym (same_act (program_in c.args.program.now) (owned (setup_in c.args.program.now) (layout_in c.args.program.now) f)
-        (told_act_of c.args.act.now) c.requires.plain))
+    (refl) c.args.item (told_act_of c.args.act.now) c.requires.is (owned (setup_in c.args.program.now) (layout_in c.args.program.now) f)
+    ∙ sym (same_act (program_in c.args.program.now) (owned (setup_in c.args.program.now) (layout_in c.args.program.now) f)
+    (told_act_of c.args.act.now) c.requires.plain))
     (c.join_shows.ensures.hosts (setup_in c.args.program.now) (layout_in c.args.program.now) (tables_in c.args.program.now)
-        c.args.machine.now f h c.args.item c.requires.going
-        (kind_is (program_in c.args.program.now) (setup_in c.args.program.now) (layout_in c.args.program.now) (tables_in c.args.program.now)
-        (refl) c.args.item (told_act_of c.args.act.now) c.requires.is)))
+    c.args.machine.now f h c.args.item c.requires.going
+    (kind_is (program_in c.args.program.now) (setup_in c.args.program.now) (layout_in c.args.program.now) (tables_in c.args.program.now)
+    (refl) c.args.item (told_act_of c.args.act.now) c.requires.is)))
 
 pub returns-in-Err-clause-after : goal.returns-in-Err-clause-after
 returns-in-Err-clause-after c f h =
     halts (program_in c.args.program.now) (setup_in c.args.program.now) (layout_in c.args.program.now) (tables_in c.args.program.now) (refl)
-        c.requires.sound.indexed c.args.machine.now f h c.requires.sound.variables c.variables_hold.ensures.are c.args.item
-        c.act.new.self.variables c.act.new.self.output
+    c.requires.sound.indexed c.args.machine.now f h c.requires.sound.variables c.variables_hold.ensures.are c.args.item
+    c.act.new.self.variables c.act.new.self.output
     (Unit {0}) c.in-Err.fault (act_run (of_vars (program_in c.args.program.now).vars) (owned (setup_in c.args.program.now) (layout_in c.args.program.now) f) (told_act_of c.args.act.now))
     (subst (λ r. ActEnds (of_vars (program_in c.args.program.now).vars) c.act.new.self.variables
-        (owned (setup_in c.args.program.now) (layout_in c.args.program.now) f) c.args.machine.now.output c.act.new.self.output r
-        (act_run (of_vars (program_in c.args.program.now).vars) (owned (setup_in c.args.program.now) (layout_in c.args.program.now) f)
-        (told_act_of c.args.act.now))) c.in-Err.is
-        (subst (λ vs. ActEnds (of_vars vs) c.act.new.self.variables (owned (setup_in c.args.program.now) (layout_in c.args.program.now) f)
-        c.args.machine.now.output c.act.new.self.output c.in_ok-act.field-0
-        (act_run (of_vars vs) (owned (setup_in c.args.program.now) (layout_in c.args.program.now) f) (told_act_of c.args.act.now)))
-        (ap (map var_of) c.deref.ensures.value)
-        (c.in_ok-act.ensures.ends (owned (setup_in c.args.program.now) (layout_in c.args.program.now) f)
-        (subst (λ vs. Holds (of_vars vs) c.args.machine.now.variables
-        (owned (setup_in c.args.program.now) (layout_in c.args.program.now) f)) (sym (ap (map var_of) c.deref.ensures.value))
-        (holds (program_in c.args.program.now) (setup_in c.args.program.now) (layout_in c.args.program.now) (tables_in c.args.program.now)
-        (refl) c.requires.sound.indexed c.args.machine.now f h c.requires.sound.variables c.variables_hold.ensures.hold
-        (c.owners_show.ensures.variables (setup_in c.args.program.now) (layout_in c.args.program.now) (tables_in c.args.program.now)
-        c.requires.sound.indexed c.args.machine.now f h))))))
+    (owned (setup_in c.args.program.now) (layout_in c.args.program.now) f) c.args.machine.now.output c.act.new.self.output r
+    (act_run (of_vars (program_in c.args.program.now).vars) (owned (setup_in c.args.program.now) (layout_in c.args.program.now) f)
+    (told_act_of c.args.act.now))) c.in-Err.is
+    (subst (λ vs. ActEnds (of_vars vs) c.act.new.self.variables (owned (setup_in c.args.program.now) (layout_in c.args.program.now) f)
+    c.args.machine.now.output c.act.new.self.output c.in_ok-act.field-0
+    (act_run (of_vars vs) (owned (setup_in c.args.program.now) (layout_in c.args.program.now) f) (told_act_of c.args.act.now)))
+    (ap (map var_of) c.deref.ensures.value)
+    (c.in_ok-act.ensures.ends (owned (setup_in c.args.program.now) (layout_in c.args.program.now) f)
+    (subst (λ vs. Holds (of_vars vs) c.args.machine.now.variables
+    (owned (setup_in c.args.program.now) (layout_in c.args.program.now) f)) (sym (ap (map var_of) c.deref.ensures.value))
+    (holds (program_in c.args.program.now) (setup_in c.args.program.now) (layout_in c.args.program.now) (tables_in c.args.program.now)
+    (refl) c.requires.sound.indexed c.args.machine.now f h c.requires.sound.variables c.variables_hold.ensures.hold
+    (c.owners_show.ensures.variables (setup_in c.args.program.now) (layout_in c.args.program.now) (tables_in c.args.program.now)
+    c.requires.sound.indexed c.args.machine.now f h))))))
     (host_is (program_in c.args.program.now) (setup_in c.args.program.now) (layout_in c.args.program.now) (tables_in c.args.program.now)
-        (refl) c.args.item (told_act_of c.args.act.now) c.requires.is (owned (setup_in c.args.program.now) (layout_in c.args.program.now) f)
-        ∙ sym (same_act (program_in c.args.program.now) (owned (setup_in c.args.program.now) (layout_in c.args.program.now) f)
-        (told_act_of c.args.act.now) c.requires.plain))
+    (refl) c.args.item (told_act_of c.args.act.now) c.requires.is (owned (setup_in c.args.program.now) (layout_in c.args.program.now) f)
+    ∙ sym (same_act (program_in c.args.program.now) (owned (setup_in c.args.program.now) (layout_in c.args.program.now) f)
+    (told_act_of c.args.act.now) c.requires.plain))
     (c.join_shows.ensures.halts (setup_in c.args.program.now) (layout_in c.args.program.now) (tables_in c.args.program.now)
-        c.args.machine.now f h c.args.item c.requires.going
-        (kind_is (program_in c.args.program.now) (setup_in c.args.program.now) (layout_in c.args.program.now) (tables_in c.args.program.now)
-        (refl) c.args.item (told_act_of c.args.act.now) c.requires.is))
+    c.args.machine.now f h c.args.item c.requires.going
+    (kind_is (program_in c.args.program.now) (setup_in c.args.program.now) (layout_in c.args.program.now) (tables_in c.args.program.now)
+    (refl) c.args.item (told_act_of c.args.act.now) c.requires.is))

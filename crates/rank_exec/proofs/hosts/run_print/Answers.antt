@@ -28,10 +28,10 @@ returns-in-Some-clause-after c =
     c.args.machine.now c.print_owned.new.self f h c.args.item c.args.dat c.args.file.now c.requires.is
     (c.join_shows.ensures.hosts (setup_in c.args.program.now) (layout_in c.args.program.now) (tables_in c.args.program.now) c.args.machine.now f h c.args.item c.requires.going
     (kind_is (program_in c.args.program.now) (setup_in c.args.program.now) (layout_in c.args.program.now) (tables_in c.args.program.now)
-        refl c.args.item (Print c.args.dat c.args.file.now) c.requires.is))
+    refl c.args.item (Print c.args.dat c.args.file.now) c.requires.is))
     (cells_at o.at o.dim (row c.args.machine.now.memories o.rank))
     (c.owners_show.ensures.cells (setup_in c.args.program.now) (layout_in c.args.program.now) (tables_in c.args.program.now)
-        c.requires.sound.indexed c.args.machine.now f h o stand.rank stand.inside stand.owned
+    c.requires.sound.indexed c.args.machine.now f h o stand.rank stand.inside stand.owned
     ∙ ap (map (owned (setup_in c.args.program.now) (layout_in c.args.program.now) f)) stand.cells)
     c.print_owned.ensures.others e)
     c.print_owned.ensures.printed
@@ -49,6 +49,6 @@ returns-clause-after c =
     c.args.machine.now c.print.new.self f h c.args.item c.args.dat c.args.file.now c.requires.is
     (c.join_shows.ensures.hosts (setup_in c.args.program.now) (layout_in c.args.program.now) (tables_in c.args.program.now) c.args.machine.now f h c.args.item c.requires.going
     (kind_is (program_in c.args.program.now) (setup_in c.args.program.now) (layout_in c.args.program.now) (tables_in c.args.program.now)
-        refl c.args.item (Print c.args.dat c.args.file.now) c.requires.is))
+    refl c.args.item (Print c.args.dat c.args.file.now) c.requires.is))
     c.deref.result.now (c.deref.ensures.value ∙ c.in_ok-values.ensures.values f h) c.print.ensures.others e)
     c.print.ensures.printed

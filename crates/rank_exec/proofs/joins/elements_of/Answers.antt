@@ -12,12 +12,12 @@ use Rattle.rank_exec.proofs.joins.elements_of.Goals as goal
 pub set_size-requires : goal.set_size-requires
 set_size-requires c =
     (site_facts (program_in c.args.program.now) c.requires.sound.planned.fits c.items_are_there.ensures.loops c.args.item c.args.site
-        c.requires.site c.args.program.now.bound.now.sites.items c.index.result.now refl c.index.ensures).0
+    c.requires.site c.args.program.now.bound.now.sites.items c.index.result.now refl c.index.ensures).0
 
 pub returns : goal.returns
 returns c =
     let same = (site_facts (program_in c.args.program.now) c.requires.sound.planned.fits c.items_are_there.ensures.loops c.args.item
-        c.args.site c.requires.site c.args.program.now.bound.now.sites.items c.index.result.now refl c.index.ensures).1 in
+    c.args.site c.requires.site c.args.program.now.bound.now.sites.items c.index.result.now refl c.index.ensures).1 in
     c.set_size.ensures
     ∙ ap (λ (s : SiteValue). set_size (program_in c.args.program.now).mesh s.set) (sym same)
     ∙ ap (λ n. set_size (program_in c.args.program.now).mesh (site_at (program_in c.args.program.now) n).set) (sym (ap loop_of c.requires.site))

@@ -14,7 +14,7 @@ owners_copy-first-requires-clause-element c =
 pub loop-element-init : goal.loop-element-init
 loop-element-init c =
     none_stand (program_in c.args.program.now) (setup_in c.args.program.now) (layout_in c.args.program.now) (tables_in c.args.program.now)
-        c.args.dat c.owners_copy-first.result c.owners_copy-first.ensures
+    c.args.dat c.owners_copy-first.result c.owners_copy-first.ensures
 
 pub loop-element-preserved : goal.loop-element-preserved
 loop-element-preserved c =

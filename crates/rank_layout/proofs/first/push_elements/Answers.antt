@@ -1,4 +1,4 @@
-use Rattle.std.proofs.Common.{◌≡◌, ◌+◌, ◌*◌, ◌++◌, length, take, flat_map, sym, ap, ◌∙◌, append_assoc}
+use Rattle.std.proofs.Common.{◌++◌, length, take, flat_map, sym, ap, ◌∙◌, append_assoc}
 use Rattle.rank_layout.proofs.Stretches.{of_element, together, stretch_within}
 use Rattle.rank_layout.proofs.first.push_elements.Goals as goal
 

@@ -23,17 +23,17 @@ pub loop-row-preserved : goal.loop-row-preserved
 loop-row-preserved c =
     let before = get_or c.args.variables.now c.args.at (pos 0) in
     let row : c.deref.result.now ≡ get_or (lists c.args.rows.now) c.loop-row.row-index [] = c.deref.ensures.value
-        ∙ row_is c.args.rows.now c.loop-row.row-index c.row-item.result c.loop-row-test.true c.row-item.is in
+    ∙ row_is c.args.rows.now c.loop-row.row-index c.row-item.result c.loop-row-test.true c.row-item.is in
     let o = operation c.args.how in
     let lt : c.args.at < length c.args.variables.now = c.requires.at in
     step (operation c.args.how) c.args.variables.now c.loop-row.variables c.merge_row.new.variables c.args.at
-        (merge_rows (operation c.args.how) c.args.slot (lists c.args.rows.now) c.loop-row.row-index
-        (get_or c.args.variables.now c.args.at (pos 0)))
+    (merge_rows (operation c.args.how) c.args.slot (lists c.args.rows.now) c.loop-row.row-index
+    (get_or c.args.variables.now c.args.at (pos 0)))
     (get_or (get_or (lists c.args.rows.now) c.loop-row.row-index []) c.args.slot (pos 0)) c.requires.at c.loop-row.invariant
     (c.merge_row.ensures ∙ ap (λ r. set c.loop-row.variables c.args.at (merged (operation c.args.how) (get_or c.loop-row.variables c.args.at (pos 0)) (get_or r c.args.slot (pos 0)))) row)
     ∙ ap (λ n. set c.args.variables.now c.args.at
-        (merge_rows (operation c.args.how) c.args.slot (lists c.args.rows.now) n (get_or c.args.variables.now c.args.at (pos 0))))
-        (sym (add-one c.loop-row.row-index))
+    (merge_rows (operation c.args.how) c.args.slot (lists c.args.rows.now) n (get_or c.args.variables.now c.args.at (pos 0))))
+    (sym (add-one c.loop-row.row-index))
   where
     step : (o : Rattle.op_num.specs.Reduction.Reduction) (xs ys new : List ℤ) (i : ℕ) (a b : ℤ) → i < length xs → ys ≡ set xs i a
         → new ≡ set ys i (merged o (get_or ys i (pos 0)) b) → new ≡ set xs i (merged o a b)

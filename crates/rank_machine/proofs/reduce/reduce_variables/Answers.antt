@@ -12,9 +12,9 @@ put_reduced-requires-clause-rows c i lt =
 pub loop-scalar-preserved : goal.loop-scalar-preserved
 loop-scalar-preserved c =
     let inside : Reads (length c.loop-scalar.variables)
-        (get_or c.args.scalars.now c.loop-scalar.scalar-index (Value 0) ∷ drop (c.loop-scalar.scalar-index + 1) c.args.scalars.now) =
-        subst (Reads (length c.loop-scalar.variables))
-        (next c.args.scalars.now c.loop-scalar.scalar-index (Value 0) c.loop-scalar-test.true) c.loop-scalar.invariant.inside in
+    (get_or c.args.scalars.now c.loop-scalar.scalar-index (Value 0) ∷ drop (c.loop-scalar.scalar-index + 1) c.args.scalars.now) =
+    subst (Reads (length c.loop-scalar.variables))
+    (next c.args.scalars.now c.loop-scalar.scalar-index (Value 0) c.loop-scalar-test.true) c.loop-scalar.invariant.inside in
     record {
       inside = subst (λ n. Reads n (drop (c.loop-scalar.scalar-index + 1) c.args.scalars.now)) (sym c.put_reduced.auto.variables) inside.1;
       rows = λ i lt. (merges_next (length (get_or (lists c.args.rows.now) i [])) c.args.scalars.now c.loop-scalar.scalar-index (Value 0) c.loop-scalar-test.true (c.loop-scalar.invariant.rows i lt)).1;

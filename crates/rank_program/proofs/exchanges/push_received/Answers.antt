@@ -13,7 +13,7 @@ push_imports-requires-clause-has c =
     let b = program_in x in
     let is = c.receives_stand.ensures b x.owners.now c.requires.sound.numbers x.meshes.now (plan_in x) c.requires.sound.halos x.lists.now c.requires.sound.lists
     c.args.item c.args.from c.args.rank (get_or x.meshes.now c.args.rank c.index-program-rank.result) c.requires.step
-        (ap (λ (m : RankMesh). get_or x.meshes.now c.args.rank m) c.index-program-rank.is) in
+    (ap (λ (m : RankMesh). get_or x.meshes.now c.args.rank m) c.index-program-rank.is) in
     is.has
 
 pub push_imports-requires-clause-there : goal.push_imports-requires-clause-there
@@ -22,7 +22,7 @@ push_imports-requires-clause-there c =
     let b = program_in x in
     let is = c.receives_stand.ensures b x.owners.now c.requires.sound.numbers x.meshes.now (plan_in x) c.requires.sound.halos x.lists.now c.requires.sound.lists
     c.args.item c.args.from c.args.rank (get_or x.meshes.now c.args.rank c.index-program-rank.result) c.requires.step
-        (ap (λ (m : RankMesh). get_or x.meshes.now c.args.rank m) c.index-program-rank.is) in
+    (ap (λ (m : RankMesh). get_or x.meshes.now c.args.rank m) c.index-program-rank.is) in
     subst (λ (dats : List ℕ). AreThere b.mesh (get_or x.meshes.now c.args.rank c.index-program-rank.result) (λ t. imported_locals x.lists.now t c.args.rank c.args.from) dats)
     (sym c.exchange_of.ensures) is.are.there
 
@@ -32,11 +32,11 @@ push_imports-requires-clause-room c =
     let b = program_in x in
     let is = c.receives_stand.ensures b x.owners.now c.requires.sound.numbers x.meshes.now (plan_in x) c.requires.sound.halos x.lists.now c.requires.sound.lists
     c.args.item c.args.from c.args.rank (get_or x.meshes.now c.args.rank c.index-program-rank.result) c.requires.step
-        (ap (λ (m : RankMesh). get_or x.meshes.now c.args.rank m) c.index-program-rank.is) in
+    (ap (λ (m : RankMesh). get_or x.meshes.now c.args.rank m) c.index-program-rank.is) in
     let none = ap (λ (l : List Span). length l) c.requires.empty in
     let same = ap (λ (dats : List ℕ). length
-        (spans_of b.mesh (get_or x.meshes.now c.args.rank c.index-program-rank.result)
-        (λ t. imported_locals x.lists.now t c.args.rank c.args.from) dats)) c.exchange_of.ensures in
+    (spans_of b.mesh (get_or x.meshes.now c.args.rank c.index-program-rank.result)
+    (λ t. imported_locals x.lists.now t c.args.rank c.args.from) dats)) c.exchange_of.ensures in
     let most = c.requires.sound.made.messages c.args.item c.args.from c.args.rank is.are.item is.sender is.receiver in
     omega (arith, none, same, is.are.spans, most, c.requires.room)
 
@@ -46,7 +46,7 @@ returns-clause-are c =
     let b = program_in x in
     let is = c.receives_stand.ensures b x.owners.now c.requires.sound.numbers x.meshes.now (plan_in x) c.requires.sound.halos x.lists.now c.requires.sound.lists
     c.args.item c.args.from c.args.rank (get_or x.meshes.now c.args.rank c.index-program-rank.result) c.requires.step
-        (ap (λ (m : RankMesh). get_or x.meshes.now c.args.rank m) c.index-program-rank.is) in
+    (ap (λ (m : RankMesh). get_or x.meshes.now c.args.rank m) c.index-program-rank.is) in
     let new =
     c.push_imports.ensures.spans
     ∙ ap₂ (λ (l : List Span) (dats : List ℕ). l ++ spans_of b.mesh (get_or x.meshes.now c.args.rank c.index-program-rank.result) (λ t. imported_locals x.lists.now t c.args.rank c.args.from) dats)

@@ -15,7 +15,7 @@ push_exports-requires-clause-has c =
     let b = program_in x in
     let is = c.sends_stand.ensures b x.owners.now c.requires.sound.numbers x.meshes.now (plan_in x) c.requires.sound.halos x.lists.now c.requires.sound.lists
     c.args.item c.args.from c.args.to (get_or x.meshes.now c.args.from c.index-program-from.result) c.requires.step
-        (ap (λ (m : RankMesh). get_or x.meshes.now c.args.from m) c.index-program-from.is) in
+    (ap (λ (m : RankMesh). get_or x.meshes.now c.args.from m) c.index-program-from.is) in
     is.has
 
 pub push_exports-requires-clause-there : goal.push_exports-requires-clause-there
@@ -24,7 +24,7 @@ push_exports-requires-clause-there c =
     let b = program_in x in
     let is = c.sends_stand.ensures b x.owners.now c.requires.sound.numbers x.meshes.now (plan_in x) c.requires.sound.halos x.lists.now c.requires.sound.lists
     c.args.item c.args.from c.args.to (get_or x.meshes.now c.args.from c.index-program-from.result) c.requires.step
-        (ap (λ (m : RankMesh). get_or x.meshes.now c.args.from m) c.index-program-from.is) in
+    (ap (λ (m : RankMesh). get_or x.meshes.now c.args.from m) c.index-program-from.is) in
     subst (λ (dats : List ℕ). AreThere b.mesh (get_or x.meshes.now c.args.from c.index-program-from.result) (λ t. exported_locals x.lists.now t c.args.from c.args.to) dats)
     (sym c.exchange_of.ensures) is.are.there
 
@@ -34,11 +34,11 @@ push_exports-requires-clause-room c =
     let b = program_in x in
     let is = c.sends_stand.ensures b x.owners.now c.requires.sound.numbers x.meshes.now (plan_in x) c.requires.sound.halos x.lists.now c.requires.sound.lists
     c.args.item c.args.from c.args.to (get_or x.meshes.now c.args.from c.index-program-from.result) c.requires.step
-        (ap (λ (m : RankMesh). get_or x.meshes.now c.args.from m) c.index-program-from.is) in
+    (ap (λ (m : RankMesh). get_or x.meshes.now c.args.from m) c.index-program-from.is) in
     let none = ap (λ (l : List Span). length l) c.requires.empty in
     let same = ap (λ (dats : List ℕ). length
-        (spans_of b.mesh (get_or x.meshes.now c.args.from c.index-program-from.result)
-        (λ t. exported_locals x.lists.now t c.args.from c.args.to) dats)) c.exchange_of.ensures in
+    (spans_of b.mesh (get_or x.meshes.now c.args.from c.index-program-from.result)
+    (λ t. exported_locals x.lists.now t c.args.from c.args.to) dats)) c.exchange_of.ensures in
     let most = c.requires.sound.made.messages c.args.item c.args.from c.args.to is.are.item is.sender is.receiver in
     omega (arith, none, same, is.are.spans, most, c.requires.room)
 
@@ -48,7 +48,7 @@ returns-clause-are c =
     let b = program_in x in
     let is = c.sends_stand.ensures b x.owners.now c.requires.sound.numbers x.meshes.now (plan_in x) c.requires.sound.halos x.lists.now c.requires.sound.lists
     c.args.item c.args.from c.args.to (get_or x.meshes.now c.args.from c.index-program-from.result) c.requires.step
-        (ap (λ (m : RankMesh). get_or x.meshes.now c.args.from m) c.index-program-from.is) in
+    (ap (λ (m : RankMesh). get_or x.meshes.now c.args.from m) c.index-program-from.is) in
     let new =
     c.push_exports.ensures.spans
     ∙ ap₂ (λ (l : List Span) (dats : List ℕ). l ++ spans_of b.mesh (get_or x.meshes.now c.args.from c.index-program-from.result) (λ t. exported_locals x.lists.now t c.args.from c.args.to) dats)
@@ -61,7 +61,7 @@ returns-clause-some c =
     let b = program_in x in
     let is = c.sends_stand.ensures b x.owners.now c.requires.sound.numbers x.meshes.now (plan_in x) c.requires.sound.halos x.lists.now c.requires.sound.lists
     c.args.item c.args.from c.args.to (get_or x.meshes.now c.args.from c.index-program-from.result) c.requires.step
-        (ap (λ (m : RankMesh). get_or x.meshes.now c.args.from m) c.index-program-from.is) in
+    (ap (λ (m : RankMesh). get_or x.meshes.now c.args.from m) c.index-program-from.is) in
     let new =
     c.push_exports.ensures.spans
     ∙ ap₂ (λ (l : List Span) (dats : List ℕ). l ++ spans_of b.mesh (get_or x.meshes.now c.args.from c.index-program-from.result) (λ t. exported_locals x.lists.now t c.args.from c.args.to) dats)

@@ -76,17 +76,17 @@ returns-clause-core c i ws lt len =
     c.args.program.now.bound.now.sites.items refl c.index-site.result.now c.index-site.ensures c.args.program.now.codes.now t.sound.codes in
     let count : length c.args_of.result.now ≡ length (the.site_of b c.args.item).args = ap length (args_are c) in
     let kernel = kernel_of b t.sound.planned.fits (site_of c.index-site.result.now) fit
-        (get_or c.args.program.now.codes.now c.index-site.result.now.kernel c.index-program-site.result).kernel.now
-        (t.sound.codes.of_kernel c.index-site.result.now.kernel c.index-program-site.result
-        (get_or c.args.program.now.codes.now c.index-site.result.now.kernel c.index-program-site.result).kernel.now there) in
+    (get_or c.args.program.now.codes.now c.index-site.result.now.kernel c.index-program-site.result).kernel.now
+    (t.sound.codes.of_kernel c.index-site.result.now.kernel c.index-program-site.result
+    (get_or c.args.program.now.codes.now c.index-site.result.now.kernel c.index-program-site.result).kernel.now there) in
     ap (λ m. core_of (kernel_meaning (map target_of (places_in c.args.targets.now m i)) c.args.constants.now
-        (get_or c.args.program.now.codes.now c.index-site.result.now.kernel c.index-program-site.result).kernel.now (ws ∷ []))) count
+    (get_or c.args.program.now.codes.now c.index-site.result.now.kernel c.index-program-site.result).kernel.now (ws ∷ []))) count
     ∙ (ap (λ ts. core_of (kernel_meaning ts c.args.constants.now
-        (get_or c.args.program.now.codes.now c.index-site.result.now.kernel c.index-program-site.result).kernel.now (ws ∷ [])))
-        (c.requires.targeted.each i lt).places_are
+    (get_or c.args.program.now.codes.now c.index-site.result.now.kernel c.index-program-site.result).kernel.now (ws ∷ [])))
+    (c.requires.targeted.each i lt).places_are
     ∙ (ap (λ (s : SiteValue). core_of
-        (kernel_meaning (frame_windows b s.args (task_at c.args.tasks.now i).element) c.args.constants.now
-        (get_or c.args.program.now.codes.now c.index-site.result.now.kernel c.index-program-site.result).kernel.now (ws ∷ []))) same
+    (kernel_meaning (frame_windows b s.args (task_at c.args.tasks.now i).element) c.args.constants.now
+    (get_or c.args.program.now.codes.now c.index-site.result.now.kernel c.index-program-site.result).kernel.now (ws ∷ []))) same
     ∙ sym (ap (λ (s : SiteValue). site_core b s (task_at c.args.tasks.now i).element c.args.constants.now ws) same
     ∙ ap (λ o. core_with b o (site_of c.index-site.result.now) (task_at c.args.tasks.now i).element c.args.constants.now ws) kernel)))
 

@@ -24,7 +24,7 @@ put_local_args-requires-clause-here c =
 pub bounds-program-site : goal.bounds-program-site
 bounds-program-site c =
     code_there c.args.elements.now.program.now c.requires.sound c.steps_stand.ensures c.args.elements.now.item c.args.elements.now.rank
-        c.requires.step.0 c.requires.step.1 c.site_of-site.result.now c.site_of-site.ensures
+    c.requires.step.0 c.requires.step.1 c.site_of-site.result.now c.site_of-site.ensures
 
 pub faults_first-requires : goal.faults_first-requires
 faults_first-requires c =

@@ -29,7 +29,7 @@ run-requires-clause-can g c =
     let size = part_length l.places.now at count fits part c.part_at-part.ensures in
     let are = part_are l.places.now at count fits part c.part_at-part.ensures in
     can_run l c.args.run.now.rows c.requires.can.rows c.requires.can.can.is _
-        (length-take-le l.part.now.cells c.args.share.now.memory.now (let all = c.requires.lent.memory in omega (arith, all))) part
+    (length-take-le l.part.now.cells c.args.share.now.memory.now (let all = c.requires.lent.memory in omega (arith, all))) part
     (λ j lt. subst (BeginsAt l) (sym (are j (omega (arith, lt, size)))) (c.requires.can.steps (at + j) (omega (arith, lt, size, fits))))
 
 pub run-requires-clause-in_rows : goal.run-requires-clause-in_rows

@@ -73,6 +73,6 @@ returns c =
       differ = c.stores.ensures;
     })
     refl refl places_long (λ a lt. subst
-        (λ k. place_at c.put_scalars.new.places a ≡ scalar_place k l.part.now.cells (get_or l.args.now a None) (place_at c.args.cells.now a)
-        (place_at c.put_columns.new.places a)) (sym long) (c.put_scalars.ensures a (omega (arith, lt, same_few)))) obeying refl refl
-        (omega (arith, ways, few)) (omega (arith, long, below))
+    (λ k. place_at c.put_scalars.new.places a ≡ scalar_place k l.part.now.cells (get_or l.args.now a None) (place_at c.args.cells.now a)
+    (place_at c.put_columns.new.places a)) (sym long) (c.put_scalars.ensures a (omega (arith, lt, same_few)))) obeying refl refl
+    (omega (arith, ways, few)) (omega (arith, long, below))

@@ -18,8 +18,8 @@ run_group-requires-clause-accepts g c κs within i lt =
 pub returns : goal.returns
 returns g c i lt =
     let here : i < length c.args.staging.now / c.args.window =
-        subst (λ n. i < n) (sym (count_windows (length c.args.staging.now) (length c.args.job.now.tasks.now) c.args.window c.requires.wide
-        c.requires.whole)) lt in
+    subst (λ n. i < n) (sym (count_windows (length c.args.staging.now) (length c.args.job.now.tasks.now) c.args.window c.requires.wide
+    c.requires.whole)) lt in
     let at = c.requires.accepts i lt in
     let whole : length (part c.args.window i c.args.staging.now) ≡ c.args.window = part_length c.args.window i (length c.args.job.now.tasks.now) c.args.staging.now lt c.requires.whole in
     let room = at.room in
@@ -30,13 +30,13 @@ returns g c i lt =
     places_fit (places_in c.args.job.now.targets.now c.args.job.now.args i) (take (task_at c.args.job.now.tasks.now i).cells (part c.args.window i c.args.staging.now))
     (subst (λ n. PlacesIn n (places_in c.args.job.now.targets.now c.args.job.now.args i)) (sym cells) at.fits) in
     let kept = (c.shape_stays.ensures c.args.job.now.code.now.kernel.now
-        (map target_of (places_in c.args.job.now.targets.now c.args.job.now.args i)) c.args.job.now.constants.now
-        (take (task_at c.args.job.now.tasks.now i).cells (part c.args.window i c.args.staging.now) ∷ []) fits).1 0 in
+    (map target_of (places_in c.args.job.now.targets.now c.args.job.now.args i)) c.args.job.now.constants.now
+    (take (task_at c.args.job.now.tasks.now i).cells (part c.args.window i c.args.staging.now) ∷ []) fits).1 0 in
     let number : 0 + i ≡ i = omega arith in
     let left : part c.args.window i c.run_group.new.staging ≡ job_window c.args.job.now i (part c.args.window i c.args.staging.now) =
     c.run_group.ensures.each.became i here ∙ ap (λ n. job_window c.args.job.now n (part c.args.window i c.args.staging.now)) number in
     ran_in (kernel_meaning (map target_of (places_in c.args.job.now.targets.now c.args.job.now.args i)) c.args.job.now.constants.now
-        c.args.job.now.code.now.kernel.now (take (task_at c.args.job.now.tasks.now i).cells (part c.args.window i c.args.staging.now) ∷ []))
+    c.args.job.now.code.now.kernel.now (take (task_at c.args.job.now.tasks.now i).cells (part c.args.window i c.args.staging.now) ∷ []))
     (task_at c.args.job.now.tasks.now i).cells
-        (length (part c.args.window i c.args.staging.now) - (task_at c.args.job.now.tasks.now i).cells)
-        (part c.args.window i c.run_group.new.staging) (kept ∙ cells) behind left
+    (length (part c.args.window i c.args.staging.now) - (task_at c.args.job.now.tasks.now i).cells)
+    (part c.args.window i c.run_group.new.staging) (kept ∙ cells) behind left

@@ -51,8 +51,8 @@ loop-start-preserved c =
           let ens = w.in_ok-take_reached.ensures in
           let io : c.if-not-index.order.items ≡ w.take_reached.new.order.items = ap (λ (v : Vec ℕ Global). v.items) w.order-is in
           let is : c.if-not-index.seen.items ≡ w.take_reached.new.seen = ap (λ (v : Vec Bool Global). v.items) w.seen-is
-              ∙ with_items_is (with_item c.loop-start.seen z true) w.take_reached.new.seen
-              (w.take_reached.auto.seen ∙ w.deref_mut.ensures.len) in
+          ∙ with_items_is (with_item c.loop-start.seen z true) w.take_reached.new.seen
+          (w.take_reached.auto.seen ∙ w.deref_mut.ensures.len) in
           rw (io, is) (record {
             walk = ens.walk;
             done = λ j lj. ens.kept (get_or c.args.starts.now j 0) (rw w.deref_mut.ensures.value (done_set seen c.args.starts.now i ls inv.done j lj));
@@ -72,9 +72,9 @@ returns-clause-length c =
     let w = c.loop-start.invariant.walk in
     let n : ℕ = set_size c.args.mesh.now (map_to c.args.mesh.now c.args.map) in
     let z : count_by (λ b. not b) c.loop-start.seen.items ≡ 0 =
-        none_left c.loop-start.seen.items
-        (λ y l. all_marked n c.args.starts.now c.loop-start.seen.items c.requires.all (λ i k. c.loop-start.invariant.done i (omega arith)) y
-        (rw (← w.size) l)) in
+    none_left c.loop-start.seen.items
+    (λ y l. all_marked n c.args.starts.now c.loop-start.seen.items c.requires.all (λ i k. c.loop-start.invariant.done i (omega arith)) y
+    (rw (← w.size) l)) in
     omega (arith, w.count)
 
 pub returns-clause-all : goal.returns-clause-all

@@ -30,11 +30,11 @@ bounds-seen-neighbour c =
     let items : List ℕ = c.as_slice-neighbour-items.result.now in
     let x : ℕ = get_or c.args.order.now.items c.args.head 0 in
     let u : AreUnseen g m x c.args.seen.now c.args.keys.now items =
-        found g m x c.index.result.now c.args.seen.now c.args.keys.now c.unseen_neighbours.new.found.items items
-        (get_or_read c.args.order.now.items c.args.head c.index.result.now c.requires.head c.index.ensures 0)
-        c.as_slice-neighbour-items.ensures.value c.in_ok-unseen_neighbours.ensures in
+    found g m x c.index.result.now c.args.seen.now c.args.keys.now c.unseen_neighbours.new.found.items items
+    (get_or_read c.args.order.now.items c.args.head c.index.result.now c.requires.head c.index.ensures 0)
+    c.as_slice-neighbour-items.ensures.value c.in_ok-unseen_neighbours.ensures in
     bound g m x c.loop-neighbour.neighbour-index c.args.seen.now c.loop-neighbour.seen c.args.keys.now items c.requires.at c.requires.map u
-        c.loop-neighbour-test.true c.loop-neighbour.invariant.walk.size
+    c.loop-neighbour-test.true c.loop-neighbour.invariant.walk.size
 
 pub bounds-seen-neighbour-then-not-seen-neighbour : goal.bounds-seen-neighbour-then-not-seen-neighbour
 bounds-seen-neighbour-then-not-seen-neighbour c =
@@ -43,11 +43,11 @@ bounds-seen-neighbour-then-not-seen-neighbour c =
     let items : List ℕ = c.as_slice-neighbour-items.result.now in
     let x : ℕ = get_or c.args.order.now.items c.args.head 0 in
     let u : AreUnseen g m x c.args.seen.now c.args.keys.now items =
-        found g m x c.index.result.now c.args.seen.now c.args.keys.now c.unseen_neighbours.new.found.items items
-        (get_or_read c.args.order.now.items c.args.head c.index.result.now c.requires.head c.index.ensures 0)
-        c.as_slice-neighbour-items.ensures.value c.in_ok-unseen_neighbours.ensures in
+    found g m x c.index.result.now c.args.seen.now c.args.keys.now c.unseen_neighbours.new.found.items items
+    (get_or_read c.args.order.now.items c.args.head c.index.result.now c.requires.head c.index.ensures 0)
+    c.as_slice-neighbour-items.ensures.value c.in_ok-unseen_neighbours.ensures in
     bound g m x c.loop-neighbour.neighbour-index c.args.seen.now c.loop-neighbour.seen c.args.keys.now items c.requires.at c.requires.map u
-        c.loop-neighbour-test.true c.loop-neighbour.invariant.walk.size
+    c.loop-neighbour-test.true c.loop-neighbour.invariant.walk.size
 
 pub loop-neighbour-preserved : goal.loop-neighbour-preserved
 loop-neighbour-preserved c =
@@ -63,9 +63,9 @@ loop-neighbour-preserved c =
     let seen : List Bool = c.loop-neighbour.seen in
     let inv = c.loop-neighbour.invariant in
     let u : AreUnseen g m x c.args.seen.now c.args.keys.now items =
-        found g m x c.index.result.now c.args.seen.now c.args.keys.now c.unseen_neighbours.new.found.items items
-        (get_or_read c.args.order.now.items c.args.head c.index.result.now c.requires.head c.index.ensures 0)
-        c.as_slice-neighbour-items.ensures.value c.in_ok-unseen_neighbours.ensures in
+    found g m x c.index.result.now c.args.seen.now c.args.keys.now c.unseen_neighbours.new.found.items items
+    (get_or_read c.args.order.now.items c.args.head c.index.result.now c.requires.head c.index.ensures 0)
+    c.as_slice-neighbour-items.ensures.value c.in_ok-unseen_neighbours.ensures in
     let nz : near x z ≡ true = u.near i c.loop-neighbour-test.true in
     let lz : z < n = (neighbours_within g m x z c.requires.at c.requires.map nz).1 in
     let ls : z < length seen = rw inv.walk.size lz in
@@ -105,8 +105,8 @@ returns-clause-walk c =
     let x : ℕ = get_or c.args.order.now.items c.args.head 0 in
     let inv = c.loop-neighbour.invariant in
     let u : AreUnseen g m x c.args.seen.now c.args.keys.now items =
-        found g m x c.index.result.now c.args.seen.now c.args.keys.now c.unseen_neighbours.new.found.items items
-        (get_or_read c.args.order.now.items c.args.head c.index.result.now c.requires.head c.index.ensures 0)
-        c.as_slice-neighbour-items.ensures.value c.in_ok-unseen_neighbours.ensures in
+    found g m x c.index.result.now c.args.seen.now c.args.keys.now c.unseen_neighbours.new.found.items items
+    (get_or_read c.args.order.now.items c.args.head c.index.result.now c.requires.head c.index.ensures 0)
+    c.as_slice-neighbour-items.ensures.value c.in_ok-unseen_neighbours.ensures in
     walk_closed (set_size g (map_to g m)) near c.loop-neighbour.order.items c.loop-neighbour.seen c.args.head inv.walk
     (λ y t. all_done (near x) c.args.seen.now c.loop-neighbour.seen items u.all inv.kept (λ i l. inv.done i (omega arith)) y (subst (λ q. near q y ≡ true) inv.here t))

@@ -23,5 +23,5 @@ breadth_first-requires-clause-all c =
 pub returns-clause-taken : goal.returns-clause-taken
 returns-clause-taken c = taken c.args.mesh.now c.args.map c.in_ok-keys.keys.items c.in_ok-order.order.items c.in_ok-keys.ensures.degrees
     (subst (λ (z : List ℕ). IsTaken (set_size c.args.mesh.now (map_to c.args.mesh.now c.args.map))
-        (are_neighbours c.args.mesh.now c.args.map) (keyed z) c.in_ok-order.order.items) c.deref-2.ensures.value
-        c.in_ok-order.ensures.taken)
+    (are_neighbours c.args.mesh.now c.args.map) (keyed z) c.in_ok-order.order.items) c.deref-2.ensures.value
+    c.in_ok-order.ensures.taken)

@@ -18,8 +18,8 @@ same_keys g m keys now order numbers read e n er is within rises i j le l =
     let a = within i (omega arith) in
     let b = within j l in
     let one : (x : ℕ) → x < set_size g (map_from g m) → get_or now x 0 ≡ least_below (map_dim g m)
-        (λ i. get_or numbers (target g m x i) 0) = λ x lx. ap (λ (z : List ℕ). get_or z x 0) e
-        ∙ (is x lx ∙ ap (λ (z : List ℕ). least_below (map_dim g m) (λ i. get_or z (target g m x i) 0)) er) in
+    (λ i. get_or numbers (target g m x i) 0) = λ x lx. ap (λ (z : List ℕ). get_or z x 0) e
+    ∙ (is x lx ∙ ap (λ (z : List ℕ). least_below (map_dim g m) (λ i. get_or z (target g m x i) 0)) er) in
     let x = one (get_or order i 0) (omega arith) in
     let y = one (get_or order j 0) (omega arith) in
     rw (x, y) at (rises i j le l)

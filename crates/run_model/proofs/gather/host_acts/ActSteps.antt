@@ -108,8 +108,8 @@ module _ (b : BoundValue) (order : IsInOrder b) (m : List ℤ) (s : Store) (hold
         ≡ on_value Halts (component_in cells (var_width b v) at index) (λ i. on_value Halts (new_value_in cells (start + i) op op_at e) (storing_at i))
     assigned_same =
         ap (λ c. on_value Halts c (λ i. on_value Halts (value_of b s e)
-            (λ x. on_value Halts (stored op op_at (s (Variable (record { variable = v; component = i }))) x) (storing_at i))))
-            (component_same at index)
+        (λ x. on_value Halts (stored op op_at (s (Variable (record { variable = v; component = i }))) x) (storing_at i))))
+        (component_same at index)
         ∙ ap (λ l. on_value Halts (component_in cells (var_width b v) at index)
         (λ i. on_value Halts (value [] l e) (λ x. on_value Halts (stored op op_at (s (Variable (record { variable = v; component = i }))) x) (storing_at i)))) is
         ∙ by_component v (variables_of s) op op_at (component_in cells (var_width b v) at index) (value [] cells e) (var_width b v)

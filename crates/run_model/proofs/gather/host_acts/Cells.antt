@@ -64,7 +64,7 @@ module _ (b : BoundValue) (order : IsInOrder b) (g : VarCell → ℤ) where
       let follow : var_start b v + var_width b v ≤ var_start b w = order.vars v w later in
       get_or-append_right (map g (block v (length x.start))) (map g (cells_from (suc v) xs)) (length x.start) k (pos 0) (block_length v (length x.start)) (omega (arith, wide, follow, at))
       ∙ cell_held xs (suc v) (rest_are x xs v are) w i (k - length x.start) (omega (arith, later)) lt li
-          (let s : var_start b (suc v) ≡ var_start b v + var_width b v = refl in omega (arith, wide, follow, at, s)))
+      (let s : var_start b (suc v) ≡ var_start b v + var_width b v = refl in omega (arith, wide, follow, at, s)))
       (λ (own : w ≤ v).
       let same : w ≡ v = omega (arith, own, le) in
       let starts : var_start b w ≡ var_start b v = ap (var_start b) same in

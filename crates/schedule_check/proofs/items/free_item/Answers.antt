@@ -64,9 +64,9 @@ returns c =
     let s : ℕ = c.args.site in
     let plan : SitePlanValue = site_plan_of c.site_of-found.result.now in
     let each : (r : ℕ) → r < length c.args.ranks.now → AreNewPlaces p.block (blocks_of plan.colours r) (inner_of plan.colours r)
-        (core_in (sets_of c.args.ranks.now r) (site_at b s).set) (get_or runs r no_run) =
+    (core_in (sets_of c.args.ranks.now r) (site_at b s).set) (get_or runs r no_run) =
     subst (λ z. (r : ℕ) → r < length c.args.ranks.now → AreNewPlaces p.block (blocks_of plan.colours r) (inner_of plan.colours r)
-        (core_in (sets_of c.args.ranks.now r) z) (get_or runs r no_run)) c.set_of.ensures c.in_ok-places.ensures.places in
+    (core_in (sets_of c.args.ranks.now r) z) (get_or runs r no_run)) c.set_of.ensures c.in_ok-places.ensures.places in
     let fresh = loop_fresh b c.args.ranks.now p c.args.item s pairs runs plan c.requires.runs sent c.requires.plan.ranks c.in_ok-places.ensures.count c.site_of-found.ensures
     (subst (AreColoured c.args.plan.now.block (length c.args.ranks.now)) (sym c.site_of-found.ensures) c.requires.colours) each in
     let made : c.in_ok-marks.marks ≡ free_item (froms pairs) (tos pairs) runs =

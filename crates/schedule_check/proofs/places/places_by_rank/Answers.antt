@@ -35,7 +35,7 @@ loop-rank-preserved c =
     let here : AreNewPlaces c.args.size (blocks_of cs r) (inner_of cs r) (core_in (sets_of c.args.ranks.now r) c.args.set) v =
     subst (λ (z : List ℕ). AreNewPlaces c.args.size z (inner_of cs r) (core_in (sets_of c.args.ranks.now r) c.args.set) v) (blocks_read cs r c.index.result.now lc c.index.ensures)
     (subst (λ (z : List ℕ). AreNewPlaces c.args.size c.index.result.now.blocks.items z (core_in (sets_of c.args.ranks.now r) c.args.set) v)
-        (inner_read cs r c.index.result.now lc c.index.ensures) made) in
+    (inner_read cs r c.index.result.now lc c.index.ensures) made) in
     rw c.in_ok-push.ensures.items (record {
       count = omega (arith, length_push xs v, c.loop-rank.invariant.count);
       places = one_more (λ a w. AreNewPlaces c.args.size (blocks_of cs a) (inner_of cs a) (core_in (sets_of c.args.ranks.now a) c.args.set)

@@ -135,7 +135,7 @@ module _ (faulty : Bool) where
       let i : moved e s ≡ t = cc in
       ap (λ z. z (Data c)) (sym i)
       ∙ cond-false (is_x c && (c.element == e)) (int_wrap w32 (s (Data c) +ℤ s (r e))) (s (Data c))
-          (and_left (is_x c) (c.element == e) (and_left (c.dat == 0) (nat_lt c.element 2 && (c.component == 0)) m))
+      (and_left (is_x c) (c.element == e) (and_left (c.dat == 0) (nat_lt c.element 2 && (c.component == 0)) m))
   stays (suc (suc (suc (suc n)))) e s t c od lt h m = cc
 
   -- ---- touches
@@ -274,9 +274,12 @@ module _ (faulty : Bool) where
       let a : OfNode c 0 = of_node c 0 (is_read_x (is_x c) (is_r c) h) in
       ⊎_elim
       (λ (i : c.element ≡ t). inl (owner_in c a.below ∙ i))
-      (λ (ne : c.element ≡ t → ⊥). inr
-          (and_from (nat_lt c.element 2) (false || (c.element == other t)) (lt-ltb c.element 2 a.below)
-          (eq-eqb c.element (other t) (other_is t c.element lt a.below ne)), eq-eqb c.dat 0 a.of_dat, refl))
+      (λ (ne : c.element ≡ t → ⊥). inr (
+        and_from (nat_lt c.element 2) (false || (c.element == other t)) (lt-ltb c.element 2 a.below)
+            (eq-eqb c.element (other t) (other_is t c.element lt a.below ne)),
+        eq-eqb c.dat 0 a.of_dat,
+        refl,
+      ))
       (cases_eq c.element t)
   core_reads (suc (suc zero)) t e c fr lt le ex h = cc
   core_reads (suc (suc (suc zero))) t e c fr lt le ex h = cc

@@ -196,7 +196,7 @@ module _ (faulty : Bool) where
   exported : (k s t : ℕ) (c : DatCell) → t < 2 → real c ≡ true → arrives (ring faulty) k t s c ≡ true → among (exports k s t) (Data c) ≡ true
   exported k s t c lt h a =
       let u : ((owner_of (ring faulty) c == s) ≡ true) × ((needs k c.dat && has_copy (ring faulty) t c) ≡ true) =
-          and_parts (owner_of (ring faulty) c == s) (needs k c.dat && has_copy (ring faulty) t c) a in
+      and_parts (owner_of (ring faulty) c == s) (needs k c.dat && has_copy (ring faulty) t c) a in
       let v : (needs k c.dat ≡ true) × (has_copy (ring faulty) t c ≡ true) = and_parts (needs k c.dat) (has_copy (ring faulty) t c) u.1 in
       let c_real : Real c = is_real c h in
       by_item k (sym (owner_in faulty c c_real.element) ∙ eqb-true (owner_of (ring faulty) c) s u.0) v.0

@@ -112,7 +112,7 @@ hit_node : (d n : ℕ) (c : DatCell) → n < 2 → hits d n c ≡ true → of_da
 hit_node d n c lt h =
     let a : (d ≡ c.dat) × (n ≡ c.element) × (c.component ≡ 0) = hit d n c h in
     and_from (c.dat == d) (nat_lt c.element 2 && (c.component == 0)) (eq-eqb c.dat d (sym a.0))
-        (and_from (nat_lt c.element 2) (c.component == 0) (lt-ltb c.element 2 (subst (λ z. z < 2) a.1 lt)) (eq-eqb c.component 0 a.2))
+    (and_from (nat_lt c.element 2) (c.component == 0) (lt-ltb c.element 2 (subst (λ z. z < 2) a.1 lt)) (eq-eqb c.component 0 a.2))
 
 -- a node's cell is hit from one side or the other
 both_sides : (d e : ℕ) (c : DatCell) → e < 2 → of_dat d c ≡ (hits d e c || hits d (other e) c)
@@ -120,8 +120,8 @@ both_sides d e c lt = iff_eq (of_dat d c) (hits d e c || hits d (other e) c)
     (λ h. ⊎_elim
     (λ (i : c.element ≡ e). or_left (hits d e c) (hits d (other e) c) (is_hit d e c (sym (of_node c d h).of_dat) (sym i) (component_0 d c h)))
     (λ (ne : c.element ≡ e → ⊥). or_right (hits d e c) (hits d (other e) c)
-        (is_hit d (other e) c (sym (of_node c d h).of_dat) (sym (other_is false e c.element lt (of_node c d h).below ne))
-        (component_0 d c h)))
+    (is_hit d (other e) c (sym (of_node c d h).of_dat) (sym (other_is false e c.element lt (of_node c d h).below ne))
+    (component_0 d c h)))
     (cases_eq c.element e))
     (λ h. ⊎_elim (λ t. hit_node d e c lt t) (λ t. hit_node d (other e) c (below false e lt) t) (or_cases (hits d e c) (hits d (other e) c) h))
 
@@ -134,7 +134,7 @@ own_side e c lt = iff_eq (is_x c && (c.element == e)) (hits 0 e c)
 abbrev fold_touch : Bool → Bool → Bool → Bool → Touch
 fold_touch b0 b1 b2 b3 =
     cond b3 (joined (cond b2 (joined (cond b1 (joined (cond b0 Read Untouched) OpRead) (cond b0 Read Untouched)) (OpReduce Add))
-        (cond b1 (joined (cond b0 Read Untouched) OpRead) (cond b0 Read Untouched))) (OpReduce Add))
+    (cond b1 (joined (cond b0 Read Untouched) OpRead) (cond b0 Read Untouched))) (OpReduce Add))
     (cond b2 (joined (cond b1 (joined (cond b0 Read Untouched) OpRead) (cond b0 Read Untouched)) (OpReduce Add)) (cond b1 (joined (cond b0 Read Untouched) OpRead) (cond b0 Read Untouched)))
 
 by_tests : (b0 b1 b2 b3 : Bool) → ((b0 || b1) ≡ true → (b2 || b3) ≡ false) → cond (b0 || b1) Read (cond (b2 || b3) (Merged Add) Untouched) ≡ fold_touch b0 b1 b2 b3
@@ -184,9 +184,12 @@ module _ (faulty : Bool) where
       (λ h. absurd (let n : None ≡ Some o = h in cc))
       (λ h.
       let i : v ≡ sum_cell = sum_is v (sum_only faulty (is_sum v) o h) in
-      let a : o ≡ Add = add_only (is_sum v) o h in
-      (4, omega arith, ap (λ z. Global z (OpReduce Add)) (sym (ap (λ z. z.variable) i)) ∙ ap (λ z. Global v.variable (OpReduce z)) (sym a),
-          (let j : v.component ≡ 0 = ap (λ z. z.component) i in omega arith))) k fr
+      let a : o ≡ Add = add_only (is_sum v) o h in (
+        4,
+        omega arith,
+        ap (λ z. Global z (OpReduce Add)) (sym (ap (λ z. z.variable) i)) ∙ ap (λ z. Global v.variable (OpReduce z)) (sym a),
+        (let j : v.component ≡ 0 = ap (λ z. z.component) i in omega arith),
+      )) k fr
 
   -- ---- halos
   execute_if : (r s e : ℕ) → r < 2 → e < 2 → (e ≡ r → ⊥) → 1 ≡ s → import_execute r s e ≡ true
@@ -238,7 +241,7 @@ module _ (faulty : Bool) where
         (λ h. only_read faulty (is_base v)) (λ h. none_merged (is_sum v) (is_one v) h) k fr;
     free_is = λ k b d fr. first_two (λ k. b < args (site k) → is_on d (arg (site k) b) ≡ true → modifying (access_of (arg (site k) b)) ≡ true
         → ((o : Reduction) × ((a : ℕ) → a < args (site k) → is_on d (arg (site k) a) ≡ true → access_of (arg (site k) a) ≡ OpReduce o))
-            ⊎ ((a : ℕ) → a < args (site k) → is_on d (arg (site k) a) ≡ true → is_direct (arg (site k) a) ≡ true))
+        ⊎ ((a : ℕ) → a < args (site k) → is_on d (arg (site k) a) ≡ true → is_direct (arg (site k) a) ≡ true))
         (λ lb on md. inr (λ a la u. (direct_on a d u).0))
         (λ lb on md. inl (Add, λ a la u. adds_r a (ap (λ z. is_on z (of_edges a)) (sym (modifies_r b d on md)) ∙ u))) k fr;
     modifies_is = λ k a d fr. first_two (λ k. a < args (site k) → is_on d (arg (site k) a) ≡ true → modifying (access_of (arg (site k) a)) ≡ true → modifies k d ≡ true)

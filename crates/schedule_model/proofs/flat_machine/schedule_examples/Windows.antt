@@ -85,8 +85,8 @@ all = x 0 ∷ x 1 ∷ r 0 ∷ r 1 ∷ sum ∷ []
 not_r : (s : Store) (c : DatCell) → is_r c ≡ false → s (Data c) ≡ lookup all (new s) (Data c) (s (Data c))
 not_r s c h = sym (
     one_of (x 0) (Data c) (s (x 0))
-        (lookup (x 1 ∷ r 0 ∷ r 1 ∷ sum ∷ []) (s (x 1) ∷ int_wrap w32 (s (r 0) +ℤ s (x 1)) ∷ int_wrap w32 (s (r 1) +ℤ s (x 0))
-        ∷ int_wrap w32 (s sum +ℤ s one) ∷ []) (Data c) (s (Data c))) (λ i. ap s i ∙ sym rest)
+    (lookup (x 1 ∷ r 0 ∷ r 1 ∷ sum ∷ []) (s (x 1) ∷ int_wrap w32 (s (r 0) +ℤ s (x 1)) ∷ int_wrap w32 (s (r 1) +ℤ s (x 0))
+    ∷ int_wrap w32 (s sum +ℤ s one) ∷ []) (Data c) (s (Data c))) (λ i. ap s i ∙ sym rest)
     ∙ rest)
   where
     no : (n : ℕ) → n < 2 → r n ≡ Data c → ⊥

@@ -23,7 +23,7 @@ unreachable-requires c =
     let earlier = c.alike_outlines_judge_alike.ensures.earlier (outline_of v) o m.alike in
     let none : missing o (taken v) c.args.step ≡ None =
     sym (missing_same v o steps earlier c.tests_decide.ensures.steps c.tests_decide.ensures.earlier c.tests_decide.ensures.takes c.args.step
-        st (c.standard_is_accepted.ensures o 1)) ∙ sym (first o m) in
+    st (c.standard_is_accepted.ensures o 1)) ∙ sym (first o m) in
     let ready : IsReady v c.args.step = none_ready v o steps earlier c.tests_decide.ensures.steps c.tests_decide.ensures.earlier c.tests_decide.ensures.takes c.args.step st free none in
     absurd (false≢true (sym c.if-is_ready.false ∙ c.is_ready.ensures.answer.1 ready))
 
@@ -39,5 +39,5 @@ returns-clause-answer c o m =
     let earlier = c.alike_outlines_judge_alike.ensures.earlier (outline_of v) o m.alike in
     let found : missing o (taken v) c.args.step ≡ Some c.in-Some.missing =
     sym (missing_same v o steps earlier c.tests_decide.ensures.steps c.tests_decide.ensures.earlier c.tests_decide.ensures.takes c.args.step
-        st (c.standard_is_accepted.ensures o 1)) ∙ sym (first o m) in
+    st (c.standard_is_accepted.ensures o 1)) ∙ sym (first o m) in
     untaken o (taken v) c.args.step (Some c.in-Some.missing) (sym (steps c.args.step) ∙ here) free found

@@ -15,12 +15,12 @@ returns-then-has_wanted c o m =
     let same : c.args.marks.now.ranks ≡ o.ranks = m.alike.ranks in
     let lt : i < c.args.marks.now.ranks = omega (arith, c.loop-to-test.true, c.ranks-to-end.ensures) in
     let h : (o.sends c.args.item c.args.from i && f (Send c.args.item c.args.from i)) ≡ true =
-        ap (λ z. z && f (Send c.args.item c.args.from i))
-        (sym (sends_here c.args.marks.now o m c.args.item c.requires.item c.args.from i c.requires.free c.requires.rank lt))
-        ∙ (sym c.has_wanted.ensures ∙ c.if-has_wanted.true) in
+    ap (λ z. z && f (Send c.args.item c.args.from i))
+    (sym (sends_here c.args.marks.now o m c.args.item c.requires.item c.args.from i c.requires.free c.requires.rank lt))
+    ∙ (sym c.has_wanted.ensures ∙ c.if-has_wanted.true) in
     sym (below_some f (λ r. where_true (o.sends c.args.item c.args.from r) (Send c.args.item c.args.from r ∷ [])) i o.ranks
-        (Send c.args.item c.args.from i) (omega arith) (c.loop-to.invariant.none o m)
-        (where_some f (o.sends c.args.item c.args.from i) (Send c.args.item c.args.from i) h))
+    (Send c.args.item c.args.from i) (omega arith) (c.loop-to.invariant.none o m)
+    (where_some f (o.sends c.args.item c.args.from i) (Send c.args.item c.args.from i) h))
 
 pub loop-to-preserved : goal.loop-to-preserved
 loop-to-preserved c = record {
@@ -29,11 +29,11 @@ loop-to-preserved c = record {
       let f : Step → Bool = wanted c.args.marks.now c.args.later in
       let lt : i < c.args.marks.now.ranks = omega (arith, c.loop-to-test.true, c.ranks-to-end.ensures) in
       let h : (o.sends c.args.item c.args.from i && f (Send c.args.item c.args.from i)) ≡ false =
-          ap (λ z. z && f (Send c.args.item c.args.from i))
-          (sym (sends_here c.args.marks.now o m c.args.item c.requires.item c.args.from i c.requires.free c.requires.rank lt))
-          ∙ (sym c.has_wanted.ensures ∙ c.if-has_wanted.false) in
+      ap (λ z. z && f (Send c.args.item c.args.from i))
+      (sym (sends_here c.args.marks.now o m c.args.item c.requires.item c.args.from i c.requires.free c.requires.rank lt))
+      ∙ (sym c.has_wanted.ensures ∙ c.if-has_wanted.false) in
       below_none f (λ r. where_true (o.sends c.args.item c.args.from r) (Send c.args.item c.args.from r ∷ [])) i
-          (c.loop-to.invariant.none o m) (where_none f (o.sends c.args.item c.args.from i) (Send c.args.item c.args.from i) h));
+      (c.loop-to.invariant.none o m) (where_none f (o.sends c.args.item c.args.from i) (Send c.args.item c.args.from i) h));
 }
 
 pub returns : goal.returns
@@ -41,5 +41,5 @@ returns c o m =
     let same : c.args.marks.now.ranks ≡ o.ranks = m.alike.ranks in
     let e : c.loop-to.to ≡ o.ranks = omega (arith, c.ranks-to-end.ensures, c.loop-to-test.false, c.loop-to.auto.to-end) in
     sym (subst (λ n. first_of (wanted c.args.marks.now c.args.later)
-        (below (λ r. where_true (o.sends c.args.item c.args.from r) (Send c.args.item c.args.from r ∷ [])) n) ≡ None) e
-        (c.loop-to.invariant.none o m))
+    (below (λ r. where_true (o.sends c.args.item c.args.from r) (Send c.args.item c.args.from r ∷ [])) n) ≡ None) e
+    (c.loop-to.invariant.none o m))

@@ -18,7 +18,7 @@ loop-here-preserved c =
 pub returns : goal.returns
 returns c =
     let e : runs_left c.args.item c.args.rank c.args.runs.now c.loop-here.here ≡ [] =
-        no_runs c.args.item c.args.rank c.args.runs.now c.loop-here.here (omega (arith, c.len.ensures, c.loop-here-test.false)) in
+    no_runs c.args.item c.args.rank c.args.runs.now c.loop-here.here (omega (arith, c.len.ensures, c.loop-here-test.false)) in
     (c.loop-here.invariant.left ∙ e, e)
 
 pub returns-then-here-elements : goal.returns-then-here-elements

@@ -15,4 +15,4 @@ pub returns : goal.returns
 returns g c =
     sole_answered (g.F.Shelf.told c.args.shelf.now) (Rose (g.F.Shelf.faults c.args.shelf.now) (g.F.Shelf.faults c.sole_file.new.shelf)) MeshBytes c.args.file.now
     (ConversionAnswers c.args.dim c.args.scale c.args.writes_source) c.some_files_are_as_seen.ensures c.deref.result.now c.converted.result
-        (rw c.deref.ensures.value c.in_ok-bytes.ensures.read) c.converted.ensures
+    (rw c.deref.ensures.value c.in_ok-bytes.ensures.read) c.converted.ensures

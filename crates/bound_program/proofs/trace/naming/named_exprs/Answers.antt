@@ -1,4 +1,4 @@
-use Rattle.std.proofs.Common.{◌≡◌, ◌∙◌, ◌++◌, ◌+◌, ◌∷◌, [], sym, ap, subst, arith, List, map, take}
+use Rattle.std.proofs.Common.{◌∙◌, ◌++◌, ◌+◌, ◌∷◌, [], sym, ap, subst, arith, List, map, take}
 use Rattle.std.proofs.lemmas.List.{take_all, take_more}
 use Rattle.kernel_model.specs.View.{RExprTree, rexpr_of}
 use Rattle.bound_program.specs.Naming.{SpellAll}

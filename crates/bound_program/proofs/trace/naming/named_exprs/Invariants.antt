@@ -1,4 +1,4 @@
-use Rattle.std.proofs.Common.{◌≡◌, map, take}
+use Rattle.std.proofs.Common.{map, take}
 use Rattle.kernel_model.specs.View.{rexpr_of}
 use Rattle.bound_program.specs.Naming.{Grows, SpellAll}
 use Rattle.bound_program.proofs.trace.naming.named_exprs.Given as goal

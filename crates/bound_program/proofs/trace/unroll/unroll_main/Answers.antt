@@ -14,8 +14,8 @@ returns c =
     let empty : IsEmpty u = record { items = c.new.ensures.items; values = c.new-2.ensures.items; left = refl } in
     let sites = map site_of c.args.sites.now in
     let h = subst (λ (ts : List ℤ). (rest : List Event)
-        → before (seen u) (unrolled u.left (events sites ts (step_of c.args.body.now) ++ rest)) ≡ before (seen c.unroll.new.out)
-        (unrolled c.unroll.new.out.left rest)) c.new-told.ensures.items c.in_ok-unroll.ensures.leaves in
+    → before (seen u) (unrolled u.left (events sites ts (step_of c.args.body.now) ++ rest)) ≡ before (seen c.unroll.new.out)
+    (unrolled c.unroll.new.out.left rest)) c.new-told.ensures.items c.in_ok-unroll.ensures.leaves in
     exit_ok u c.unroll.new.out c.push_exit.new.out (events sites [] (step_of c.args.body.now)) (Does (Host Exit)) empty h c.in_ok-push_exit.ensures.leaves
 
 pub returns-in_err-push_exit : goal.returns-in_err-push_exit
@@ -25,7 +25,7 @@ returns-in_err-push_exit c =
     let sites = map site_of c.args.sites.now in
     let p = err_from_is_err_and c.from_residual-in_err-push_exit.result c.from_residual-in_err-push_exit.ensures.1 in
     let h = subst (λ (ts : List ℤ). (rest : List Event)
-        → before (seen u) (unrolled u.left (events sites ts (step_of c.args.body.now) ++ rest)) ≡ before (seen c.unroll.new.out)
-        (unrolled c.unroll.new.out.left rest)) c.new-told.ensures.items c.in_ok-unroll.ensures.leaves in
+    → before (seen u) (unrolled u.left (events sites ts (step_of c.args.body.now) ++ rest)) ≡ before (seen c.unroll.new.out)
+    (unrolled c.unroll.new.out.left rest)) c.new-told.ensures.items c.in_ok-unroll.ensures.leaves in
     rw (p.1, p.2) (exit_err u c.unroll.new.out c.push_exit.new.out (events sites [] (step_of c.args.body.now)) (Does (Host Exit))
-        c.in_err-push_exit.field-0.0 empty h c.in_err-push_exit.ensures.leaves)
+    c.in_err-push_exit.field-0.0 empty h c.in_err-push_exit.ensures.leaves)

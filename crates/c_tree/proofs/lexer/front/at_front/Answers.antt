@@ -7,9 +7,9 @@ use Rattle.c_tree.proofs.lexer.front.at_front.Goals as goal
 pub returns-then-is_letter-clause-is : goal.returns-then-is_letter-clause-is
 returns-then-is_letter-clause-is c =
     like_answer c.args.fresh c.args.bytes.now _ c.word_or_name.result
-        (front_letter c.args.fresh c.args.bytes.now c.requires (sym c.is_letter.ensures ∙ c.if-is_letter.true))
-        (subst (λ z. IfOk c.word_or_name.result (λ f. f ≡ front_word (take z c.args.bytes.now))) c.name_len.ensures.size
-        c.word_or_name.ensures.is)
+    (front_letter c.args.fresh c.args.bytes.now c.requires (sym c.is_letter.ensures ∙ c.if-is_letter.true))
+    (subst (λ z. IfOk c.word_or_name.result (λ f. f ≡ front_word (take z c.args.bytes.now))) c.name_len.ensures.size
+    c.word_or_name.ensures.is)
 
 pub returns-then-is_digit-clause-is : goal.returns-then-is_digit-clause-is
 returns-then-is_digit-clause-is c =

@@ -10,7 +10,7 @@ use Rattle.c_tree.proofs.lexer.front.passed_or_sign.Goals as goal
 pub returns-then-passes_rest_of_line-clause-is : goal.returns-then-passes_rest_of_line-clause-is
 returns-then-passes_rest_of_line-clause-is c =
     subst (λ z. IsFront c.args.fresh c.args.bytes.now (Passed z)) (sym c.line_len.ensures.size)
-        (line_front c.args.fresh c.args.bytes.now (sym c.passes_rest_of_line.ensures ∙ c.if-passes_rest_of_line.true))
+    (line_front c.args.fresh c.args.bytes.now (sym c.passes_rest_of_line.ensures ∙ c.if-passes_rest_of_line.true))
 
 pub returns-in-Some-clause-is : goal.returns-in-Some-clause-is
 returns-in-Some-clause-is c =
@@ -23,9 +23,9 @@ returns-in-None-clause-is c =
 pub returns-else-starts_with-clause-is : goal.returns-else-starts_with-clause-is
 returns-else-starts_with-clause-is c =
     subst (IsFront c.args.fresh c.args.bytes.now) (sym c.sign.ensures)
-        (front_other c.args.fresh c.args.bytes.now c.requires.some c.requires.no_blank c.requires.no_letter c.requires.no_digit
-        c.requires.no_quote (sym c.passes_rest_of_line.ensures ∙ c.if-passes_rest_of_line.false)
-        (sym c.starts_with.ensures.value ∙ c.if-starts_with.false))
+    (front_other c.args.fresh c.args.bytes.now c.requires.some c.requires.no_blank c.requires.no_letter c.requires.no_digit
+    c.requires.no_quote (sym c.passes_rest_of_line.ensures ∙ c.if-passes_rest_of_line.false)
+    (sym c.starts_with.ensures.value ∙ c.if-starts_with.false))
 
 pub returns-else-starts_with-clause-within : goal.returns-else-starts_with-clause-within
 returns-else-starts_with-clause-within c =

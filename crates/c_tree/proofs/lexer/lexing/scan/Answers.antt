@@ -14,8 +14,8 @@ returns-then-clashes c =
     let bs = c.args.bytes.now in
     let n = c.loop-from.from in
     stops_here bs c.loop-from.is_fresh c.loop-from.is_after_number n c.loop-from.at c.loop-from.tokens.items (AtBadByte [])
-        (clash_stops c.loop-from.is_fresh c.loop-from.is_after_number (drop n bs) (left n bs c.loop-from-test.true)
-        (rw (rest_is n bs) at (sym c.clashes.ensures ∙ c.if-clashes.true))) c.loop-from.invariant.state
+    (clash_stops c.loop-from.is_fresh c.loop-from.is_after_number (drop n bs) (left n bs c.loop-from-test.true)
+    (rw (rest_is n bs) at (sym c.clashes.ensures ∙ c.if-clashes.true))) c.loop-from.invariant.state
 
 pub loop-from-preserved-in-Passed : goal.loop-from-preserved-in-Passed
 loop-from-preserved-in-Passed c =
@@ -59,9 +59,9 @@ returns-in-BadByte c =
     let found = rw c.in-BadByte.is at (rw (rest_is n bs) at c.in_ok-len.ensures.is) in
     let clear = apart c.loop-from.is_after_number (drop n bs) (rw (rest_is n bs) at (sym c.clashes.ensures ∙ c.if-clashes.false)) in
     rw (rw (rest_is n bs) at c.advanced.ensures)
-        (stops_here bs c.loop-from.is_fresh c.loop-from.is_after_number n c.loop-from.at c.loop-from.tokens.items
-        (AtBadByte (take l (drop n bs))) (bad_stops c.loop-from.is_fresh c.loop-from.is_after_number (drop n bs) l clear found)
-        c.loop-from.invariant.state)
+    (stops_here bs c.loop-from.is_fresh c.loop-from.is_after_number n c.loop-from.at c.loop-from.tokens.items
+    (AtBadByte (take l (drop n bs))) (bad_stops c.loop-from.is_fresh c.loop-from.is_after_number (drop n bs) l clear found)
+    c.loop-from.invariant.state)
 
 pub returns-in-OpenComment : goal.returns-in-OpenComment
 returns-in-OpenComment c =

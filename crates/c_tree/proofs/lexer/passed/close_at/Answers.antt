@@ -14,8 +14,8 @@ loop-next-preserved c = record {
 pub returns-then-begins_close-clause-size : goal.returns-then-begins_close-clause-size
 returns-then-begins_close-clause-size c =
     close_here c.args.bytes.now c.loop-next.next (close_len c.args.bytes.now) c.loop-next-test.true
-        (rw (rest_is c.loop-next.next c.args.bytes.now) at (sym c.begins_close.ensures.is ∙ c.if-begins_close.true))
-        c.loop-next.invariant.so_far
+    (rw (rest_is c.loop-next.next c.args.bytes.now) at (sym c.begins_close.ensures.is ∙ c.if-begins_close.true))
+    c.loop-next.invariant.so_far
 
 pub returns-clause-size : goal.returns-clause-size
 returns-clause-size c =

@@ -43,7 +43,7 @@ returns-clause-front c = λ other some.
     let all : map (site_at b) (drop (length c.args.sites.now - c.loop-done.done) c.args.sites.now) ≡ map (site_at b) c.args.sites.now = ap (λ n. map (site_at b) (drop n c.args.sites.now)) zero in
     subst (λ z. AreNeeded b o z (front_of other c.loop-done.levels.items)) all
     (subst (AreNeeded b o (map (site_at b) (drop (length c.args.sites.now - c.loop-done.done) c.args.sites.now)))
-        (front_any c.in_ok-own.own.items other c.loop-done.levels.items some) c.loop-done.invariant.front)
+    (front_any c.in_ok-own.own.items other c.loop-done.levels.items some) c.loop-done.invariant.front)
 
 pub returns-clause-below : goal.returns-clause-below
 returns-clause-below c = λ other some.

@@ -21,7 +21,7 @@ overflow_add-messages c =
     messages_here b o c.deref-then-begins_chain.result.now k c.in_ok-place.place c.messages_at-messages.result
     (subst (Rattle.chain_needs.specs.Slices.AreShapes b o) (sym c.deref-then-begins_chain.ensures.value) c.in_ok-place.ensures.shapes)
     (subst (λ (z : List Shape). Rattle.chain_needs.specs.Slices.IsPlace b z k c.in_ok-place.place)
-        (sym c.deref-then-begins_chain.ensures.value) c.in_ok-place.ensures.place) first c.messages_at-messages.ensures in
+    (sym c.deref-then-begins_chain.ensures.value) c.in_ok-place.ensures.place) first c.messages_at-messages.ensures in
     let le : chain_messages b o (loops_from b k) ≤ 4096 = few_messages b o (loops_from b k) c.requires.owners.few_ranks in
     let n : length (bound_of c.args.bound.now).trace ≡ length c.args.bound.now.trace.items = length-map c.args.bound.now.trace.items item_of in
     omega (arith, c.loop-item.invariant.few, c.requires.fits.few, c.len-item-end.ensures)
@@ -33,7 +33,7 @@ loop-item-preserved c =
     let k = c.loop-item.item in
     let f = item_messages b o in
     let placed = places_push b c.loop-item.shapes.items c.place_of.new.shapes.items k c.loop-item.places.items c.in_ok-place.place
-        c.in_ok-place.ensures.keeps c.loop-item.invariant.places c.in_ok-place.ensures.place in
+    c.in_ok-place.ensures.keeps c.loop-item.invariant.places c.in_ok-place.ensures.place in
     elim c.if-begins_chain.branch [
       | then-begins_chain w ↦
           let first : begins_at b k ≡ Rattle.std.proofs.Common.true = sym c.begins_chain.ensures ∙ w.if-begins_chain.true in
@@ -41,7 +41,7 @@ loop-item-preserved c =
           messages_here b o w.deref-then-begins_chain.result.now k c.in_ok-place.place w.messages_at-messages.result
           (subst (Rattle.chain_needs.specs.Slices.AreShapes b o) (sym w.deref-then-begins_chain.ensures.value) c.in_ok-place.ensures.shapes)
           (subst (λ (z : List Shape). Rattle.chain_needs.specs.Slices.IsPlace b z k c.in_ok-place.place)
-              (sym w.deref-then-begins_chain.ensures.value) c.in_ok-place.ensures.place) first w.messages_at-messages.ensures in
+          (sym w.deref-then-begins_chain.ensures.value) c.in_ok-place.ensures.place) first w.messages_at-messages.ensures in
           let le : chain_messages b o (loops_from b k) ≤ 4096 = few_messages b o (loops_from b k) c.requires.owners.few_ranks in
           let g = grown k f c.loop-item.messages c.if-begins_chain.messages w.messages_at-messages.result c.loop-item.invariant.messages c.loop-item.invariant.few
           (is ∙ sym (begun_messages b o k first)) (omega arith) w.messages-is in

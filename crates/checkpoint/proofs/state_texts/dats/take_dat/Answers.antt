@@ -19,10 +19,10 @@ returns-in_err-take_exactly-clause-judged c = λ b k.
     let line = dat_line g d in
     let is = written line c.write_dat_line.new.text.items c.deref.result.now c.in_ok-write_dat_line.ensures c.deref.ensures.value in
     passed_on b k (awaited_dat g d) c.args.lines.now c.take_exactly.new.lines (λ v. v) c.from_residual-in_err-take_exactly.result
-        c.in_err-take_exactly.field-0.0 c.from_residual-in_err-take_exactly.ensures.1
+    c.in_err-take_exactly.field-0.0 c.from_residual-in_err-take_exactly.ensures.1
     (refused_first b k (Exactly line ∷ []) (map (λ e. Values (dat_dim g d)) (numbers (set_size g (dat_set g d)))) c.args.lines.now c.in_err-take_exactly.field-0.0
     (refuses_same b k (Exactly (c.deref.result.now ++ 10 ∷ []) ∷ []) (Exactly line ∷ []) c.args.lines.now c.in_err-take_exactly.field-0.0
-        (ap (λ z. Exactly z ∷ []) is) (c.in_err-take_exactly.ensures b k)))
+    (ap (λ z. Exactly z ∷ []) is) (c.in_err-take_exactly.ensures b k)))
 
 pub returns-in_err-take_elements-clause-judged : goal.returns-in_err-take_elements-clause-judged
 returns-in_err-take_elements-clause-judged c = λ b k.
@@ -32,14 +32,14 @@ returns-in_err-take_elements-clause-judged c = λ b k.
     let is = written line c.write_dat_line.new.text.items c.deref.result.now c.in_ok-write_dat_line.ensures c.deref.ensures.value in
     let size = set_size g (dat_set g d) in
     let rows = rows_same size (dat_dim g d) c.set_size.result c.dat_shape-set.result.1
-        (c.set_size.ensures ∙ ap (λ p. set_size g p.0) c.dat_shape-set.ensures) (ap (λ p. p.1) c.dat_shape-set.ensures) in
+    (c.set_size.ensures ∙ ap (λ p. set_size g p.0) c.dat_shape-set.ensures) (ap (λ p. p.1) c.dat_shape-set.ensures) in
     passed_on b k (awaited_dat g d) c.args.lines.now c.take_elements.new.lines (λ v. v) c.from_residual-in_err-take_elements.result
-        c.in_err-take_elements.field-0.0 c.from_residual-in_err-take_elements.ensures.1
+    c.in_err-take_elements.field-0.0 c.from_residual-in_err-take_elements.ensures.1
     (refused_then b k (Exactly line ∷ []) (map (λ e. Values (dat_dim g d)) (numbers size)) c.args.lines.now c.take_exactly.new.lines [] c.in_err-take_elements.field-0.0
     (fits_same b k (Exactly (c.deref.result.now ++ 10 ∷ []) ∷ []) (Exactly line ∷ []) c.args.lines.now c.take_exactly.new.lines [] (ap (λ z. Exactly z ∷ []) is) (c.in_ok-take_exactly.ensures b k))
     (refuses_same b k (map (λ e. Values c.dat_shape-set.result.1) (numbers c.set_size.result))
-        (map (λ e. Values (dat_dim g d)) (numbers size)) c.take_exactly.new.lines c.in_err-take_elements.field-0.0 rows
-        (c.in_err-take_elements.ensures b k)))
+    (map (λ e. Values (dat_dim g d)) (numbers size)) c.take_exactly.new.lines c.in_err-take_elements.field-0.0 rows
+    (c.in_err-take_elements.ensures b k)))
 
 pub returns-clause-judged : goal.returns-clause-judged
 returns-clause-judged c = λ b k.
@@ -50,13 +50,13 @@ returns-clause-judged c = λ b k.
     let size = set_size g (dat_set g d) in
     let mine = map (λ e. Values c.dat_shape-set.result.1) (numbers c.set_size.result) in
     let rows = rows_same size (dat_dim g d) c.set_size.result c.dat_shape-set.result.1
-        (c.set_size.ensures ∙ ap (λ p. set_size g p.0) c.dat_shape-set.ensures) (ap (λ p. p.1) c.dat_shape-set.ensures) in
+    (c.set_size.ensures ∙ ap (λ p. set_size g p.0) c.dat_shape-set.ensures) (ap (λ p. p.1) c.dat_shape-set.ensures) in
     subst (FitsAmong b k (awaited_dat g d) c.args.lines.now c.take_elements.new.lines) (sym c.new.ensures)
     (fits_append b k (Exactly line ∷ []) (map (λ e. Values (dat_dim g d)) (numbers size)) c.args.lines.now c.take_exactly.new.lines c.take_elements.new.lines [] c.take_elements.new.values.items
     (fits_same b k (Exactly (c.deref.result.now ++ 10 ∷ []) ∷ []) (Exactly line ∷ []) c.args.lines.now c.take_exactly.new.lines [] (ap (λ z. Exactly z ∷ []) is) (c.in_ok-take_exactly.ensures b k))
     (fits_same b k mine (map (λ e. Values (dat_dim g d)) (numbers size)) c.take_exactly.new.lines c.take_elements.new.lines c.take_elements.new.values.items rows
     (pushed_alone b k mine c.take_exactly.new.lines c.take_elements.new.lines c.in_ok-values.values.items c.take_elements.new.values.items
-        (c.in_ok-take_elements.ensures b k) c.in_ok-values.ensures.items)))
+    (c.in_ok-take_elements.ensures b k) c.in_ok-values.ensures.items)))
 
 pub returns-clause-count : goal.returns-clause-count
 returns-clause-count c =
@@ -65,7 +65,7 @@ returns-clause-count c =
     let dim = c.dat_shape-set.result.1 in
     let mine = map (λ e. Values dim) (numbers c.set_size.result) in
     let f = pushed_alone no_program 0 mine c.take_exactly.new.lines c.take_elements.new.lines c.in_ok-values.values.items
-        c.take_elements.new.values.items (c.in_ok-take_elements.ensures no_program 0) c.in_ok-values.ensures.items in
+    c.take_elements.new.values.items (c.in_ok-take_elements.ensures no_program 0) c.in_ok-values.ensures.items in
     ap length c.new.ensures
     ∙ (elements_counted no_program 0 dim 0 c.set_size.result f.lines c.take_elements.new.values.items f.fit
     ∙ (ap₂ (λ s w. s * w) (c.set_size.ensures ∙ ap (λ p. set_size g p.0) c.dat_shape-set.ensures) (ap (λ p. p.1) c.dat_shape-set.ensures)

@@ -27,7 +27,7 @@ loop-dat-preserved c =
           subst (FitsAmong b k (below (awaited_dat g) (c.loop-dat.dat + 1)) c.args.lines.now c.take_dat.new.lines)
           (sym (ap flat c.in_ok-push.ensures.items ∙ flat_push c.loop-dat.told.items z))
           (fits_next (awaited_dat g) b k c.loop-dat.dat c.args.lines.now c.loop-dat.lines c.take_dat.new.lines (flat c.loop-dat.told.items)
-              z (c.loop-dat.invariant.fits b k) (c.in_ok-values.ensures.judged b k));
+          z (c.loop-dat.invariant.fits b k) (c.in_ok-values.ensures.judged b k));
     }
 
 pub returns-clause-judged : goal.returns-clause-judged

@@ -17,17 +17,17 @@ loop-element-init c = λ b k. pushed_none b k c.args.lines.now c.args.values.now
 pub returns-in_err-take_values : goal.returns-in_err-take_values
 returns-in_err-take_values c = λ b k.
     push_passed_on b k (map (λ e. Values c.args.dim) (numbers c.args.size)) c.args.lines.now c.take_values.new.lines c.args.values.now.items
-        c.take_values.new.values.items c.from_residual.result c.in_err-take_values.field-0.0 c.from_residual.ensures.1
+    c.take_values.new.values.items c.from_residual.result c.in_err-take_values.field-0.0 c.from_residual.ensures.1
     (refuses_same b k (below (λ e. Values c.args.dim ∷ []) c.args.size) (map (λ e. Values c.args.dim) (numbers c.args.size))
-        c.args.lines.now c.in_err-take_values.field-0.0 (rows c.args.dim c.args.size)
+    c.args.lines.now c.in_err-take_values.field-0.0 (rows c.args.dim c.args.size)
     (let p = c.loop-element.invariant b k in
     refused_next (λ e. Values c.args.dim ∷ []) b k c.loop-element._element c.args.size c.args.lines.now c.loop-element.lines p.more
-        c.in_err-take_values.field-0.0 c.loop-element-test.true p.fits (c.in_err-take_values.ensures b k)))
+    c.in_err-take_values.field-0.0 c.loop-element-test.true p.fits (c.in_err-take_values.ensures b k)))
 
 pub loop-element-preserved : goal.loop-element-preserved
 loop-element-preserved c = λ b k.
     pushes_next (λ e. Values c.args.dim ∷ []) b k c.loop-element._element c.args.lines.now c.loop-element.lines c.take_values.new.lines
-        c.args.values.now.items c.loop-element.values.items c.take_values.new.values.items
+    c.args.values.now.items c.loop-element.values.items c.take_values.new.values.items
     (c.loop-element.invariant b k) (c.in_ok-take_values.ensures b k)
 
 pub returns : goal.returns

@@ -22,7 +22,7 @@ pub loop-told-preserved : goal.loop-told-preserved
 loop-told-preserved c = seen_more c.args.line.now c.loop-told.words c.next.new.self c.args.values.now.items c.loop-told.values.items c.push.new.self.items c.loop-told._told
     c.in-Some.word.now c.in-Ok.value c.loop-told.invariant c.in-Some.ensures (sym c.read_i32.ensures ∙ c.in-Ok.is)
     (c.in_ok-push.ensures.items ∙ ap (λ z. c.loop-told.values.items ++ z ∷ [])
-        (to_z-of_z w32 c.in-Ok.value (judged_fits (integer_of c.in-Some.word.now) c.in-Ok.value (sym c.read_i32.ensures ∙ c.in-Ok.is))))
+    (to_z-of_z w32 c.in-Ok.value (judged_fits (integer_of c.in-Some.word.now) c.in-Ok.value (sym c.read_i32.ensures ∙ c.in-Ok.is))))
 
 pub returns : goal.returns
 returns c = told_end c.args.line.now c.loop-told.words c.args.values.now.items c.loop-told.values.items c.loop-told._told c.args.count c.loop-told.invariant

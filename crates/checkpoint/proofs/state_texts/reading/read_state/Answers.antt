@@ -24,14 +24,14 @@ cut bytes front marked text at s f m t =
 pub returns-in-Ok-clause-says : goal.returns-in-Ok-clause-says
 returns-in-Ok-clause-says c =
     let split = cut c.args.bytes.now c.split_at.result.0.now c.split_at.result.1.now c.split_at-2.result.1.now c.in-Some.at
-        c.in-Some.ensures.1 c.split_at.ensures.front c.split_at.ensures.back c.split_at-2.ensures.back in
+    c.in-Some.ensures.1 c.split_at.ensures.front c.split_at.ensures.back c.split_at-2.ensures.back in
     file_says (bound_of c.args.bound.now) c.args.bytes.now c.split_at.result.0.now c.split_at-2.result.1.now split (state_of c.in-Ok.state) c.in-Ok.ensures.says
 
 pub returns-in-Err-clause-refused : goal.returns-in-Err-clause-refused
 returns-in-Err-clause-refused c =
     let b = bound_of c.args.bound.now in
     let split = cut c.args.bytes.now c.split_at.result.0.now c.split_at.result.1.now c.split_at-2.result.1.now c.in-Some.at
-        c.in-Some.ensures.1 c.split_at.ensures.front c.split_at.ensures.back c.split_at-2.ensures.back in
+    c.in-Some.ensures.1 c.split_at.ensures.front c.split_at.ensures.back c.split_at-2.ensures.back in
     let lines : c.count_lines.result + 2 ≡ lines_in c.split_at.result.0.now + 2 = ap (λ n. n + 2) c.count_lines.ensures.count in
     subst (Refused (SaysNone b c.args.bytes.now)) (sym c.behind.ensures)
     (file_says_none b c.args.bytes.now c.split_at.result.0.now c.split_at-2.result.1.now split (c.count_lines.result + 2) c.in-Err.refusal lines c.in-Err.ensures.refused)

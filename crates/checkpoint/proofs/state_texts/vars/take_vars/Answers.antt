@@ -15,7 +15,7 @@ returns-in_err-values-clause-judged c = λ b k.
     let x = c.var-item.result in
     let all = vars_here vs i x c.loop-var-test.true c.var-item.is in
     passed_on b k (awaited_vars 0 (starts (map var_of vs))) c.args.lines.now c.take_var.new.lines (λ v. flat_map (λ z. z) v.items)
-        c.from_residual.result c.in_err-values.field-0.0 c.from_residual.ensures.1
+    c.from_residual.result c.in_err-values.field-0.0 c.from_residual.ensures.1
     (refuses_same b k (awaited_vars 0 (starts (map var_of (take i vs) ++ var_of x ∷ map var_of (drop (suc i) vs)))) (awaited_vars 0 (starts (map var_of vs))) c.args.lines.now c.in_err-values.field-0.0
     (ap (λ l. awaited_vars 0 (starts l)) (sym all))
     (var_refused b k (map var_of (take i vs)) (var_of x) c.loop-var.told.items c.args.lines.now c.loop-var.lines c.loop-var.invariant.shape (c.loop-var.invariant.fits b k)
@@ -39,7 +39,7 @@ loop-var-preserved c =
                 (w.in_ok-values.ensures.count ∙ ap length w.as_slice-count.ensures));
             fits = λ b k. rw (now, next, w.lines-is)
                 (var_taken b k (map var_of (take i vs)) (var_of x) told c.args.lines.now c.loop-var.lines c.loop-var.invariant.shape
-                    (c.loop-var.invariant.fits b k) w.take_var.new.lines z w.if-not-var.true
+                (c.loop-var.invariant.fits b k) w.take_var.new.lines z w.if-not-var.true
                 (fits_same b k (awaited_var w.len.result (length w.as_slice-count.result.now)) (awaited_var (length told) (length x.start)) c.loop-var.lines w.take_var.new.lines z
                 (ap₂ awaited_var (w.len.ensures ∙ c.loop-var.told.ok.0) (ap length w.as_slice-count.ensures)) (w.in_ok-values.ensures.judged b k)));
           })

@@ -19,11 +19,11 @@ returns-in-Some-clause-free c k v b lo hi bl e h =
     let word : v ≡ c.loop-bit.number = omega arith in
     let bit : b ≡ c.in-Some.bit = omega arith in
     let at : Has m (get_or c.args.targets.now k 0) c.loop-bit.number c.in-Some.bit =
-        subst (λ z. Has m (get_or c.args.targets.now k 0) z c.in-Some.bit) word
-        (subst (λ z. Has m (get_or c.args.targets.now k 0) v z) bit h) in
+    subst (λ z. Has m (get_or c.args.targets.now k 0) z c.in-Some.bit) word
+    (subst (λ z. Has m (get_or c.args.targets.now k 0) v z) bit h) in
     let set : bit_at c.joined.result c.in-Some.bit ≡ 1 =
-        (c.joined.ensures c.in-Some.bit).1
-        (k, lo, hi, kept_back m n c.loop-bit.invariant.kept (get_or c.args.targets.now k 0) c.loop-bit.number c.in-Some.bit at) in
+    (c.joined.ensures c.in-Some.bit).1
+    (k, lo, hi, kept_back m n c.loop-bit.invariant.kept (get_or c.args.targets.now k 0) c.loop-bit.number c.in-Some.bit at) in
     let free : bit_at c.joined.result c.in-Some.bit ≡ 0 = c.in-Some.ensures.1 in
     omega arith
 
@@ -39,7 +39,7 @@ loop-bit-smaller c =
     let m = c.args.self.now in
     let n = c.loop-bit.self in
     let all : Cover m c.args.targets.now c.args.start c.args.end (32 * (c.loop-bit.number + 1)) =
-        cover_on m c.args.targets.now c.args.start c.args.end c.loop-bit.number (c.loop-bit.number + 1) c.loop-bit.invariant.covered
+    cover_on m c.args.targets.now c.args.start c.args.end c.loop-bit.number (c.loop-bit.number + 1) c.loop-bit.invariant.covered
     (λ b l. (let g = (c.joined.ensures b).0 (c.in-None.ensures b l) in (g.0, g.1, g.2, kept_has m n c.loop-bit.invariant.kept (get_or c.args.targets.now g.0 0) c.loop-bit.number b g.3)))
     (λ v b lo lt bl. absurd (omega arith)) in
     let most : 32 * (c.loop-bit.number + 1) ≤ c.args.most = c.requires.most (32 * (c.loop-bit.number + 1)) all in

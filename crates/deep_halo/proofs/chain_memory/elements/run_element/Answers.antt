@@ -20,14 +20,14 @@ run_here-requires-clause-fits c =
     c.is_in_range.ensures c.requires.at c.requires.of c.requires.element c.args.values.now (replicate 16 true) marked in
     subst (λ n. PlacesIn n c.put_places.new.places) (sym c.requires.memory)
     (subst (λ (ps : List Place). PlacesIn (all_cells b o.ranks) ps) (sym c.put_places.ensures)
-        (places_fit b o c.args.at c.args.all.now c.args.element c.args.values.now (replicate 16 true) runs c.requires.of))
+    (places_fit b o c.args.at c.args.all.now c.args.element c.args.values.now (replicate 16 true) runs c.requires.of))
 
 pub run_here-requires-clause-params : goal.run_here-requires-clause-params
 run_here-requires-clause-params c =
     ap length c.put_places.ensures
     ∙ length-map c.args.all.now.args.now
-        (arg_place (program_in c.args.blocks.now) c.args.all.now.args.now c.args.element
-        (stands_at (program_in c.args.blocks.now) c.args.blocks.now.owners.now c.args.at))
+    (arg_place (program_in c.args.blocks.now) c.args.all.now.args.now c.args.element
+    (stands_at (program_in c.args.blocks.now) c.args.blocks.now.owners.now c.args.at))
     ∙ takes (program_in c.args.blocks.now) c.args.all.now c.requires.sound.fits c.requires.of
 
 pub run_here-requires-clause-room : goal.run_here-requires-clause-room

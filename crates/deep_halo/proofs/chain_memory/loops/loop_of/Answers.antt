@@ -30,5 +30,5 @@ pub returns-clause-room : goal.returns-clause-room
 returns-clause-room c n room =
     let w = loop_kernel (program_in c.args.blocks.now) c.args.blocks.now.bound.now.sites.items c.args.site c.index-found.result.now c.requires.sound.fits refl c.requires.site c.index-found.ensures in
     room c.index-found.result.now.kernel c.index-blocks-found.result
-        (let q : c.index-found.result.now.kernel < length c.args.blocks.now.codes.now =
-        omega (arith, w.1.below, c.requires.sound.codes.count) in q)
+    (let q : c.index-found.result.now.kernel < length c.args.blocks.now.codes.now =
+    omega (arith, w.1.below, c.requires.sound.codes.count) in q)

@@ -52,7 +52,7 @@ returns-in-Some c st consts runs =
     (c.run_element-broken.ensures seen window values) in
     subst (λ n. Runs b o x.begun s c.run_element-broken.new.memory c.args.partials.now c.keep_fault.new.fault (ran (slicing_of b o) x.item r e (element_run b (site_at b n) e seen) st)) (sym at)
     (as_faulted b o is.sound.fits is.sound.owners c.is_in_range.ensures c.windows_are_reached.ensures x.item s e r x.begun is.loop.there at
-        le c.requires.rank st c.args.memory.now given c.args.partials.now c.args.fault.now
+    le c.requires.rank st c.args.memory.now given c.args.partials.now c.args.fault.now
     runs put (element_run b (site_at b s) e seen) c.run_element-broken.new.memory c.run_element-broken.result c.in-Some.broken c.keep_fault.new.fault ends c.in-Some.is
     (c.keep_fault.ensures ∙ ap (λ n. cond (nat_eq (owner_of o n e) r) (noted x.item e (Some c.in-Some.broken) (stop_in c.args.fault.now)) (stop_in c.args.fault.now)) is.loop.set))
 
@@ -95,5 +95,5 @@ returns-in-None c st consts runs =
     (c.take_over.ensures.partials (read b left) (read (of_vars b.vars) c.args.partials.now) whole parts)) in
     subst (λ n. Runs b o x.begun s c.take_over.new.memory c.take_over.new.partials c.args.fault.now (ran (slicing_of b o) x.item r e (element_run b (site_at b n) e seen) st)) (sym at)
     (as_finished b o is.sound.fits is.sound.owners c.is_in_range.ensures c.windows_are_reached.ensures x.item s e r x.begun is.loop.there at
-        le c.requires.rank st c.args.memory.now given c.args.partials.now c.args.fault.now
+    le c.requires.rank st c.args.memory.now given c.args.partials.now c.args.fault.now
     runs put (element_run b (site_at b s) e seen) left c.take_over.new.memory c.take_over.new.partials c.run_element-broken.result ends c.in-None.is drop merge)

@@ -34,8 +34,8 @@ run_on_rank-requires-clause-element c =
     let xs = c.elements-element-items.result.now in
     let is : xs ≡ listed n (executes b o x.item c.args.rank) = c.elements-element-items.ensures b o c.requires.is.slices c.requires.is.item c.requires.rank in
     let lt : get_or xs c.loop-element.element-index 0 < n =
-        (executed (slicing_of b o) x.item c.args.rank n xs is (chain_start (slicing_of b o)) c.loop-element.element-index 0
-        c.loop-element-test.true).0 in
+    (executed (slicing_of b o) x.item c.args.rank n xs is (chain_start (slicing_of b o)) c.loop-element.element-index 0
+    c.loop-element-test.true).0 in
     subst (λ s. get_or xs c.loop-element.element-index 0 < set_size b.mesh s) (ap (λ k. (site_at b k).set) (sym c.requires.is.site) ∙ sym c.requires.is.loop.set) lt
 
 pub loop-element-preserved : goal.loop-element-preserved

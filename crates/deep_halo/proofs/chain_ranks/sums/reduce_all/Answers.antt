@@ -38,4 +38,4 @@ returns c f p holds parts =
     let n = ranks_in c.args.blocks.now in
     let xs = c.args.all.now.args.now in
     subst (λ (zs : List Arg). Hold c.args.blocks.now c.loop-arg.memory (changed_all (sums_of n p) n xs zs f))
-        (take_all c.loop-arg.arg-index xs c.loop-arg-test.false) (c.loop-arg.invariant f p holds parts)
+    (take_all c.loop-arg.arg-index xs c.loop-arg-test.false) (c.loop-arg.invariant f p holds parts)

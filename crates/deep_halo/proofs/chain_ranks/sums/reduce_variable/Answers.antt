@@ -38,6 +38,6 @@ returns c f p holds parts =
     let v = c.args.var in
     let last : c.loop-rank.rank ≡ n = omega (arith, c.loop-rank-test.false, c.loop-rank.auto.rank-end) in
     subst (λ q. Hold c.args.blocks.now c.loop-rank.memory
-        (with_target n (Whole v) (λ i. merged_over (Some (operation c.args.how)) (λ r. p r (cell_in (Whole v) i)) q
-        (f n (cell_in (Whole v) i))) f)) last
+    (with_target n (Whole v) (λ i. merged_over (Some (operation c.args.how)) (λ r. p r (cell_in (Whole v) i)) q
+    (f n (cell_in (Whole v) i))) f)) last
     (c.loop-rank.invariant f p holds parts)

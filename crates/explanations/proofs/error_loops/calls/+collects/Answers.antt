@@ -10,4 +10,4 @@ pub collect-returns-in-Block : goal.collect-returns-in-Block
 collect-returns-in-Block t c =
     let e : host_of c.args.host.now ≡ HostBlock c.in-Block.at (hosts_of c.in-Block.body.items) = ap host_of c.in-Block.is ∙ host_block c.in-Block.at c.in-Block.body in
     subst (λ z. OnOk c.collect_all.result (map call_of c.collect_all.new.calls.items ≡ map call_of c.args.calls.now.items ++ z))
-        (ap (λ z. all_loops_of (hosts_of z)) c.deref.ensures.value ∙ ap loops_of (sym e)) c.collect_all.ensures
+    (ap (λ z. all_loops_of (hosts_of z)) c.deref.ensures.value ∙ ap loops_of (sym e)) c.collect_all.ensures

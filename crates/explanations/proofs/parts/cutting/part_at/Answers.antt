@@ -19,8 +19,8 @@ returns-in-Some-rest c =
     let same : c.loop-passed.passed ≡ c.args.place = omega (arith, all, c.loop-passed-test.false) in
     sym (part_there c.args.place (parts c.args.separator c.args.bytes.now) c.cut-in-Some-rest.result.0.now (parts_to_come c.args.separator c.cut-in-Some-rest.result.1)
     (sym c.cut-in-Some-rest.ensures.parts ∙
-        (sym (ap (parts_to_come c.args.separator) c.in-Some-rest.is)
-        ∙ (c.loop-passed.invariant ∙ ap (λ k. drop k (parts c.args.separator c.args.bytes.now)) same))))
+    (sym (ap (parts_to_come c.args.separator) c.in-Some-rest.is)
+    ∙ (c.loop-passed.invariant ∙ ap (λ k. drop k (parts c.args.separator c.args.bytes.now)) same))))
 
 pub returns-in-None : goal.returns-in-None
 returns-in-None c =

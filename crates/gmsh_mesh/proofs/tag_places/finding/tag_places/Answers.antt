@@ -13,7 +13,7 @@ returns-clause-places c =
     let holders = subst (λ x. AreHolders x (length c.args.tags.now) c.in_ok-holders.holders.items) c.deref-2.ensures.value c.in_ok-holders.ensures.holders in
     IfOk-weaker c.find_places.result _ _
     (λ found f. places c.args.tags.now c.args.keys.now c.deref.result.now c.in_ok-of.of.items is c.in_ok-of.ensures
-        c.in_ok-holders.holders.items (length c.deref-3.result.now - length c.args.tags.now) found.items n holders
+    c.in_ok-holders.holders.items (length c.deref-3.result.now - length c.args.tags.now) found.items n holders
     (subst (λ x. AreFound x (length c.args.tags.now) (length c.deref-3.result.now - length c.args.tags.now) found.items) c.deref-3.ensures.value f))
     c.find_places.ensures.found
 
@@ -26,7 +26,7 @@ returns-clause-refused c =
     let holders = subst (λ x. AreHolders x (length c.args.tags.now) c.in_ok-holders.holders.items) c.deref-2.ensures.value c.in_ok-holders.ensures.holders in
     IfErr-weaker c.find_places.result _ _
     (λ e h. find-refused c.args.tags.now c.args.keys.now c.deref.result.now c.in_ok-of.of.items is c.in_ok-of.ensures
-        c.in_ok-holders.holders.items (length c.deref-3.result.now - length c.args.tags.now) n holders e
+    c.in_ok-holders.holders.items (length c.deref-3.result.now - length c.args.tags.now) n holders e
     (subst (λ x. IsRefusedFind x (length c.args.tags.now) (length c.deref-3.result.now - length c.args.tags.now) e) c.deref-3.ensures.value h))
     c.find_places.ensures.refused
 

@@ -10,11 +10,11 @@ loop-inner-init t c =
 pub returns-then-not-is_within : goal.returns-then-not-is_within
 returns-then-not-is_within t c =
     never (StmtWithin c.args.params c.args.scratch c.args.consts) (StmtWithin c.args.params c.args.scratch c.args.consts c.args.st.now)
-        c.deref-inner-items.result.now c.loop-inner.inner-index c.inner-item.result c.is_within.result c.loop-inner-test.true
-        c.inner-item.is c.is_within.ensures c.if-not-is_within.true c.loop-inner.invariant
+    c.deref-inner-items.result.now c.loop-inner.inner-index c.inner-item.result c.is_within.result c.loop-inner-test.true
+    c.inner-item.is c.is_within.ensures c.if-not-is_within.true c.loop-inner.invariant
 
 pub loop-inner-preserved : goal.loop-inner-preserved
 loop-inner-preserved t c =
     turn (StmtWithin c.args.params c.args.scratch c.args.consts) (StmtWithin c.args.params c.args.scratch c.args.consts c.args.st.now)
-        c.deref-inner-items.result.now c.loop-inner.inner-index c.inner-item.result c.is_within.result c.loop-inner-test.true
-        c.inner-item.is c.is_within.ensures c.if-not-is_within.false c.loop-inner.invariant
+    c.deref-inner-items.result.now c.loop-inner.inner-index c.inner-item.result c.is_within.result c.loop-inner-test.true
+    c.inner-item.is c.is_within.ensures c.if-not-is_within.false c.loop-inner.invariant

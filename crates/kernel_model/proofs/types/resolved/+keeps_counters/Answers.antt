@@ -11,14 +11,14 @@ loop-inner-init t c =
 pub returns-then-not-keeps_counters : goal.returns-then-not-keeps_counters
 returns-then-not-keeps_counters t c =
     never CountersKept (CountersKept c.args.st.now) c.deref-inner-items.result.now c.loop-inner.inner-index c.inner-item.result
-        c.keeps_counters.result c.loop-inner-test.true c.inner-item.is c.keeps_counters.ensures c.if-not-keeps_counters.true
-        c.loop-inner.invariant
+    c.keeps_counters.result c.loop-inner-test.true c.inner-item.is c.keeps_counters.ensures c.if-not-keeps_counters.true
+    c.loop-inner.invariant
 
 pub loop-inner-preserved : goal.loop-inner-preserved
 loop-inner-preserved t c =
     turn CountersKept (CountersKept c.args.st.now) c.deref-inner-items.result.now c.loop-inner.inner-index c.inner-item.result
-        c.keeps_counters.result c.loop-inner-test.true c.inner-item.is c.keeps_counters.ensures c.if-not-keeps_counters.false
-        c.loop-inner.invariant
+    c.keeps_counters.result c.loop-inner-test.true c.inner-item.is c.keeps_counters.ensures c.if-not-keeps_counters.false
+    c.loop-inner.invariant
 
 pub returns-then-misses : goal.returns-then-misses
 returns-then-misses t c =

@@ -43,7 +43,7 @@ returns-clause-ran c modes stand runs =
     h.ran
     c.put_columns.new.memory c.args.partials.now c.merge_scalars.new.partials
     (c.put_columns.ensures ∙ ap₂ (λ (n : List (List ℕ)) (f : List (List ℤ)). put_back n c.args.count y.columns.now (take (width y) f)
-        (length y.columns.now) m) c.deref-2.ensures.value c.deref.ensures.value)
+    (length y.columns.now) m) c.deref-2.ensures.value c.deref.ensures.value)
     (c.merge_scalars.ensures ∙ ap (λ (f : List (List ℤ)). totals c.args.count y.scalars.now (drop (length y.columns.now) (take (width y) f)) c.args.partials.now) c.deref.ensures.value)
     c.requires.partials
 
@@ -54,7 +54,7 @@ returns-clause-others c k off =
     let h = c.requires.aside in
     let numbers = c.args.room.now.numbers.items in
     ap (λ z. get_or z k (pos 0)) (c.put_columns.ensures
-        ∙ ap₂ (λ (n : List (List ℕ)) (f : List (List ℤ)). put_back n c.args.count y.columns.now (take (width y) f) (length y.columns.now) m)
-        c.deref-2.ensures.value c.deref.ensures.value)
+    ∙ ap₂ (λ (n : List (List ℕ)) (f : List (List ℤ)). put_back n c.args.count y.columns.now (take (width y) f) (length y.columns.now) m)
+    c.deref-2.ensures.value c.deref.ensures.value)
     ∙ put_stays numbers c.args.count y.columns.now (take (width y) c.args.room.now.frame.items) (length y.columns.now) m k
     (λ i l i_lt l_lt changes same. off l l_lt (i, i_lt, changes, sym (where_looked_up y c.args.batch.now c.args.count numbers c.requires.whole h.looked i l i_lt l_lt) ∙ same))

@@ -16,7 +16,7 @@ returns-clause-aside c some =
     let numbers = c.put_all_numbers.new.numbers in
     let frame = c.run_looked_up-ran.new.frame in
     let looked : take room.numbers.len (numbers ++ drop (length numbers) room.numbers.items) ≡ numbers =
-        refilled room.numbers numbers (c.put_all_numbers.auto.numbers ∙ ap length c.deref_mut.ensures.value) in
+    refilled room.numbers numbers (c.put_all_numbers.auto.numbers ∙ ap length c.deref_mut.ensures.value) in
     let left : take room.frame.len (frame ++ drop (length frame) room.frame.items) ≡ frame = refilled room.frame frame (c.run_looked_up-ran.auto.frame ∙ ap length c.deref_mut-2.ensures.value) in
     let aside : IsAside y batch n c.deref-2.result.now m frame =
     c.run_looked_up-ran.ensures ran batch

@@ -21,7 +21,7 @@ put_aside-requires-clause-aside c =
     let r = (part_of y m places c.args.parts.now i x c.part-item.is c.loop-part-test.true inv.left).0 in
     c.asides_stay.ensures y x.batch x.ran x.room.numbers.items m c.loop-part.memory x.room.frame.items c.requires.can.whole
     (reads_alike y places x.batch n x.ran (ends_within y m places i n inv.done_is x r) (places_are y m places i n inv.done_is x r) m
-        c.loop-part.memory c.args.partials.now c.loop-part.partials inv.put c.requires.apart c.requires.differ)
+    c.loop-part.memory c.args.partials.now c.loop-part.partials inv.put c.requires.apart c.requires.differ)
     (r.aside (some_of x.ran c.if-part-eq0.false))
 
 pub returns-then-part-lt-ROWS-clause-ran : goal.returns-then-part-lt-ROWS-clause-ran
@@ -35,7 +35,7 @@ returns-then-part-lt-ROWS-clause-ran c =
     let inv = c.loop-part.invariant in
     let r = (part_of y m places c.args.parts.now i x c.part-item.is c.loop-part-test.true inv.left).0 in
     (put_more y places x.batch n x.ran (ends_within y m places i n inv.done_is x r) (places_are y m places i n inv.done_is x r) m
-        c.loop-part.memory c.put_aside.new.memory c.args.partials.now c.loop-part.partials c.put_aside.new.partials
+    c.loop-part.memory c.put_aside.new.memory c.args.partials.now c.loop-part.partials c.put_aside.new.partials
     inv.put c.put_aside.auto.memory c.put_aside.auto.partials c.put_aside.ensures.ran c.put_aside.ensures.others).ran
 
 pub loop-part-preserved : goal.loop-part-preserved

@@ -17,9 +17,12 @@ pub push_each-requires-clause-few : goal.push_each-requires-clause-few
 push_each-requires-clause-few c = omega (arith, many c.args.exports.now c.args.owner c.index-exports-owner.result c.deref_mut.result.now c.requires.owner c.requires.lengths c.deref_mut.ensures.value)
 
 pub push_each-requires-clause-ranks : goal.push_each-requires-clause-ranks
-push_each-requires-clause-ranks c = λ r l h. omega
-    (arith, c.requires.ranks r l h, many c.args.exports.now c.args.owner c.index-exports-owner.result c.deref_mut.result.now
-    c.requires.owner c.requires.lengths c.deref_mut.ensures.value)
+push_each-requires-clause-ranks c = λ r l h. omega (
+  arith,
+  c.requires.ranks r l h,
+  many c.args.exports.now c.args.owner c.index-exports-owner.result c.deref_mut.result.now
+      c.requires.owner c.requires.lengths c.deref_mut.ensures.value,
+)
 
 pub returns-clause-lengths : goal.returns-clause-lengths
 returns-clause-lengths c =
@@ -28,7 +31,7 @@ returns-clause-lengths c =
     let n : length c.deref_mut.result.now ≡ length xs = many xs c.args.owner c.index-exports-owner.result c.deref_mut.result.now c.requires.owner c.requires.lengths c.deref_mut.ensures.value in
     let m : length c.push_each.new.lists ≡ w.len = c.push_each.auto.lists ∙ c.deref_mut.ensures.len in
     pushed_lengths xs c.args.owner (length xs) (with_items w c.push_each.new.lists) c.requires.owner
-        (ap (length {A = Vec ℕ Global}) (with_items_is w c.push_each.new.lists m) ∙ (c.push_each.auto.lists ∙ n)) c.requires.lengths
+    (ap (length {A = Vec ℕ Global}) (with_items_is w c.push_each.new.lists m) ∙ (c.push_each.auto.lists ∙ n)) c.requires.lengths
 
 pub returns-clause-pushed : goal.returns-clause-pushed
 returns-clause-pushed c =

@@ -12,9 +12,12 @@ use Rattle.local_mesh.proofs.halo_lists.masks.executing_all.Goals.{then-from-set
 use Rattle.lemmas.proofs.Truth.{or_none}
 
 pub owner_sets-requires : goal.owner_sets-requires
-owner_sets-requires c = λ x l. omega
-    (arith, c.requires.owners.few_ranks, owners_below c.args.mesh.now c.args.owners.now c.args.set c.of_set.result.now c.requires.owners
-    c.requires.set c.of_set.ensures x l)
+owner_sets-requires c = λ x l. omega (
+  arith,
+  c.requires.owners.few_ranks,
+  owners_below c.args.mesh.now c.args.owners.now c.args.set c.of_set.result.now c.requires.owners
+      c.requires.set c.of_set.ensures x l,
+)
 
 pub loop-map-init : goal.loop-map-init
 loop-map-init c =

@@ -11,8 +11,14 @@ loop-element-preserved c =
     let now = c.loop-element.sets in
     let at : ℕ = c.loop-element.element in
     let reached : ℕ → ℕ → _ = reaches_by c.args.mesh.now c.args.owners.now c.args.map in
-    let within : at < length now = omega (arith, c.loop-element-test.true, c.loop-element.auto.sets, c.requires.length,
-        c.set_size-element-end.ensures, ap (λ (z : ℕ × ℕ × ℕ). set_size c.args.mesh.now z.0) c.map_ends-from.ensures) in
+    let within : at < length now = omega (
+      arith,
+      c.loop-element-test.true,
+      c.loop-element.auto.sets,
+      c.requires.length,
+      c.set_size-element-end.ensures,
+      ap (λ (z : ℕ × ℕ × ℕ). set_size c.args.mesh.now z.0) c.map_ends-from.ensures,
+    ) in
     let more : (r : ℕ) → has c.union.result r ≡ (has_at now at r || reached at r) = λ r. c.union.ensures r ∙ ap (λ z. has_at now at r || z) (c.owners_by-reached.ensures r) in (
       set_more now c.args.sets.now at c.union.result reached within more c.loop-element.invariant.0 c.loop-element.invariant.1,
       set_kept now c.args.sets.now at c.union.result c.loop-element.invariant.1,

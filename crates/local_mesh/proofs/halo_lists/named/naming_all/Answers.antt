@@ -23,8 +23,8 @@ name_by-requires-clause-ranks c =
     let at : c.map_ends-from.result.0 ≡ map_from c.args.mesh.now c.loop-map.map = ap (λ z. z.0) c.map_ends-from.ensures in
     let l : c.map_ends-from.result.0 < length c.args.ranks.now = omega (arith, c.requires.ranks.count) in
     ap (length {A = RankSet}) (c.deref.ensures.value ∙
-        (sets_read c.args.ranks.now c.map_ends-from.result.0 c.index-ranks-from.result l c.index-ranks-from.is
-        ∙ ap (sets_in c.args.ranks.now) (ap (λ z. z.0) c.map_ends-from.ensures)))
+    (sets_read c.args.ranks.now c.map_ends-from.result.0 c.index-ranks-from.result l c.index-ranks-from.is
+    ∙ ap (sets_in c.args.ranks.now) (ap (λ z. z.0) c.map_ends-from.ensures)))
     ∙ c.requires.ranks.lengths (map_from c.args.mesh.now c.loop-map.map) from
 
 pub loop-map-preserved : goal.loop-map-preserved
@@ -35,8 +35,8 @@ loop-map-preserved c = elim c.if-to-set.branch [
       let at : c.map_ends-from.result.0 ≡ map_from c.args.mesh.now c.loop-map.map = ap (λ z. z.0) c.map_ends-from.ensures in
       let l : c.map_ends-from.result.0 < length c.args.ranks.now = omega (arith, c.requires.ranks.count) in
       let e : w.deref.result.now ≡ sets_in c.args.ranks.now (map_from g c.loop-map.map) = w.deref.ensures.value
-          ∙ (sets_read c.args.ranks.now c.map_ends-from.result.0 w.index-ranks-from.result l w.index-ranks-from.is
-          ∙ ap (sets_in c.args.ranks.now) (ap (λ z. z.0) c.map_ends-from.ensures)) in
+      ∙ (sets_read c.args.ranks.now c.map_ends-from.result.0 w.index-ranks-from.result l w.index-ranks-from.is
+      ∙ ap (sets_in c.args.ranks.now) (ap (λ z. z.0) c.map_ends-from.ensures)) in
       let n : length w.name_by.new.sets ≡ c.loop-map.sets.len = omega (arith, w.name_by.auto.sets, w.deref_mut.ensures.len) in
       let items : c.if-to-set.sets.items ≡ w.name_by.new.sets = ap (λ z. z.items) w.sets-is ∙ with_items_is c.loop-map.sets w.name_by.new.sets n in
       rw items (
@@ -46,8 +46,8 @@ loop-map-preserved c = elim c.if-to-set.branch [
             (c.loop-map.invariant.1 y r)
             (eq-eqb (map_to g c.loop-map.map) c.args.set (sym (ap (λ z. z.1) c.map_ends-from.ensures) ∙ w.if-to-set.true))
             (w.name_by.ensures y r ∙ (ap (λ (z : List RankSet). has_at z y r || named_by g (has_at w.deref.result.now) c.loop-map.map y r)
-                w.deref_mut.ensures.value ∙ ap (λ (z : List RankSet). has_at c.loop-map.sets.items y r || named_by g (has_at z)
-                c.loop-map.map y r) e)),
+            w.deref_mut.ensures.value ∙ ap (λ (z : List RankSet). has_at c.loop-map.sets.items y r || named_by g (has_at z)
+            c.loop-map.map y r) e)),
       ))
   | else-to-set w ↦
       (let g = c.args.mesh.now in

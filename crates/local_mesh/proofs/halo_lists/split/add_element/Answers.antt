@@ -26,8 +26,8 @@ push_each-requires c =
       few = omega (arith, n, b, k, c.requires.owners.few_ranks);
       ranks = λ r l t. (let lr = execute_below g o c.args.set c.args.element r c.is_in_range.ensures c.requires.owners c.requires.element
           (sym (execute_has g o c.args.set c.args.element c.rank_of-owner.result c.args.executing c.empty.result c.with.result
-              c.minus-exec.result c.rank_of-owner.ensures c.requires.executing c.empty.ensures c.with.ensures c.minus-exec.ensures r l) ∙ t)
-              in omega (arith, n, b, k, lr));
+          c.minus-exec.result c.rank_of-owner.ensures c.requires.executing c.empty.ensures c.with.ensures c.minus-exec.ensures r l) ∙ t)
+          in omega (arith, n, b, k, lr));
     }
 
 pub push_each-requires-2 : goal.push_each-requires-2
@@ -41,7 +41,7 @@ push_each-requires-2 c =
       few = omega (arith, n, b, k, c.requires.owners.few_ranks);
       ranks = λ r l t. (let lr = nonexecute_below g o c.args.set c.args.element r c.is_in_range.ensures c.requires.owners
           (sym (nonexecute_has g o c.args.set c.args.element c.args.executing c.args.naming c.minus-nonexec.result c.requires.executing
-              c.requires.naming c.minus-nonexec.ensures r l) ∙ t) in omega (arith, n, b, k, lr));
+          c.requires.naming c.minus-nonexec.ensures r l) ∙ t) in omega (arith, n, b, k, lr));
     }
 
 pub push_export-requires : goal.push_export-requires
@@ -52,7 +52,7 @@ push_export-requires c =
     let e : c.deref_mut-3.result.now ≡ c.args.halo.now.exports.items = c.deref_mut-3.ensures.value in
     let n : length c.deref_mut-3.result.now ≡ o.ranks = ap (length {A = Vec (Vec ℕ Global) Global}) e ∙ b.export_count in
     let exec = execute_has g o c.args.set c.args.element c.rank_of-owner.result c.args.executing c.empty.result c.with.result
-        c.minus-exec.result c.rank_of-owner.ensures c.requires.executing c.empty.ensures c.with.ensures c.minus-exec.ensures in
+    c.minus-exec.result c.rank_of-owner.ensures c.requires.executing c.empty.ensures c.with.ensures c.minus-exec.ensures in
     let nonexec = nonexecute_has g o c.args.set c.args.element c.args.executing c.args.naming c.minus-nonexec.result c.requires.executing c.requires.naming c.minus-nonexec.ensures in
     let either = imports_has g o c.args.set c.args.element c.minus-exec.result c.minus-nonexec.result c.union.result exec nonexec c.union.ensures in
     record {
@@ -72,7 +72,7 @@ returns c =
     let b = c.requires.before in
     let few : o.ranks ≤ 64 = c.requires.owners.few_ranks in
     let exec = execute_has g o s x c.rank_of-owner.result c.args.executing c.empty.result c.with.result c.minus-exec.result
-        c.rank_of-owner.ensures c.requires.executing c.empty.ensures c.with.ensures c.minus-exec.ensures in
+    c.rank_of-owner.ensures c.requires.executing c.empty.ensures c.with.ensures c.minus-exec.ensures in
     let nonexec = nonexecute_has g o s x c.args.executing c.args.naming c.minus-nonexec.result c.requires.executing c.requires.naming c.minus-nonexec.ensures in
     let either = imports_has g o s x c.minus-exec.result c.minus-nonexec.result c.union.result exec nonexec c.union.ensures in
     let n1 : length c.push_each.new.lists ≡ h.exec.len = c.push_each.auto.lists ∙ c.deref_mut.ensures.len in
@@ -98,8 +98,8 @@ returns c =
           (λ q lq. b.exports a q la lq)
           (λ q lq. owned_pair g o s x c.rank_of-owner.result (has c.union.result q) a q c.rank_of-owner.ensures (either q (omega (arith, lq, few))))
           (λ q lq. c.in_ok-push_export.ensures.pushed a q (rw l3 la) (rw l3 lq)
-              ∙ ap (λ (z : List (Vec (Vec ℕ Global) Global)). row (rows z a) q ++ cond
-              (has c.union.result q && nat_eq c.rank_of-owner.result a) (x ∷ []) []) c.deref_mut-3.ensures.value) r l);
+          ∙ ap (λ (z : List (Vec (Vec ℕ Global) Global)). row (rows z a) q ++ cond
+          (has c.union.result q && nat_eq c.rank_of-owner.result a) (x ∷ []) []) c.deref_mut-3.ensures.value) r l);
       core_count = rw c.in_ok-push.ensures.items (omega (arith, length_push h.core.items c.is_empty.result, b.core_count));
       core = rw c.in_ok-push.ensures.items (core_more g o s x h.core.items c.is_empty.result c.is_in_range.ensures c.requires.owners c.requires.set c.requires.element b.core_count b.core
           (λ t r l. sym (exec r l) ∙ c.is_empty.ensures.0 t r l, λ k. c.is_empty.ensures.1 (λ r l. exec r l ∙ k r l)));

@@ -19,5 +19,5 @@ pub returns : goal.returns
 returns c =
     let sorted : AreSorted c.args.numbers.now c.in-Some.copies.items = rw c.in-Some.is at c.requires.sorted in
     lookup_is (length c.args.scratch.now) c.args.numbers.now c.in-Some.copies.items c.deref.result.now c.in_ok-locals.locals.items
-        c.number_locals.new.numbers c.requires.parts sorted c.deref.ensures.value c.in_ok-locals.ensures.length c.in_ok-locals.ensures.at
-        c.number_locals.ensures.at
+    c.number_locals.new.numbers c.requires.parts sorted c.deref.ensures.value c.in_ok-locals.ensures.length c.in_ok-locals.ensures.at
+    c.number_locals.ensures.at

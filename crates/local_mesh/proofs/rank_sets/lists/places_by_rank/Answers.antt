@@ -23,6 +23,6 @@ loop-place-preserved c =
       λ r l. listed_step (row c.push_each.new.lists r) (row v.items r) c.loop-place.place (λ x. has_at c.args.sets.now x r)
           (c.loop-place.invariant.1 r l)
           (c.in_ok-push_each.ensures r (omega (arith, c.push_each.auto.lists))
-              ∙ ap (λ (z : List (Vec ℕ Global)). row z r ++ cond (has_at c.args.sets.now c.loop-place.place r) (c.loop-place.place ∷ []) [])
-              c.deref_mut.ensures.value),
+          ∙ ap (λ (z : List (Vec ℕ Global)). row z r ++ cond (has_at c.args.sets.now c.loop-place.place r) (c.loop-place.place ∷ []) [])
+          c.deref_mut.ensures.value),
     )

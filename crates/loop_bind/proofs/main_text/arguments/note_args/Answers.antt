@@ -13,6 +13,6 @@ loop-arg-preserved c =
     let k = declared_of c.args.k.now in
     let x = c.arg-item.result in
     args_go places entries k c.args.set c.loop-arg.before.items _ c.args.args.now c.loop-arg.arg-index x c.loop-arg.first _
-        c.loop-arg-test.true c.arg-item.is
-        (c.note_arg.ensures ∙ ap (λ (b : List Earlier). least_from c.loop-arg.first (arg_found places entries k c.args.set b x))
-        c.deref.ensures.value) c.in_ok-add_earlier.ensures ∙ c.loop-arg.invariant
+    c.loop-arg-test.true c.arg-item.is
+    (c.note_arg.ensures ∙ ap (λ (b : List Earlier). least_from c.loop-arg.first (arg_found places entries k c.args.set b x))
+    c.deref.ensures.value) c.in_ok-add_earlier.ensures ∙ c.loop-arg.invariant

@@ -27,7 +27,7 @@ judged_host-returns-in_err-judged_hosts-in-Block t c =
     let o : b ≡ opened s.places.now s.consts.now s.entries.now.entries a = ap (λ (xs : List StepCode). walked c.args.k.now xs) c.new-inner.ensures.items in
     let p = err_from_is_err_and c.from_residual.result c.from_residual.ensures.1 in
     rw (e, p.1, p.2) (block_stops s.places.now s.consts.now s.entries.now.entries a b c.args.spot c.nested.result c.in-Block.at hs o
-        c.nested.ensures c.in_err-judged_hosts-in-Block.field-0.0 a a c.in_err-judged_hosts-in-Block.ensures)
+    c.nested.ensures c.in_err-judged_hosts-in-Block.field-0.0 a a c.in_err-judged_hosts-in-Block.ensures)
 
 pub judged_host-returns-in_ok-add_step-in-Block : goal.judged_host-returns-in_ok-add_step-in-Block
 judged_host-returns-in_ok-add_step-in-Block t c =
@@ -45,13 +45,13 @@ judged_host-returns-in_ok-add_step-in-Block t c =
     let steps : followed a.steps (one_step (Block d.steps)) ≡ steps_of c.add_step.new.steps.items =
     ap (λ (x : Step). followed a.steps (one_step x)) (sym c.block.ensures) ∙ sym c.in_ok-add_step-in-Block.ensures in
     rw e (block_done s.places.now s.consts.now s.entries.now.entries a b c.args.spot c.nested.result c.in-Block.at hs o c.nested.ensures d
-        (scope_of c.cut.new.self) (steps_of c.add_step.new.steps.items) c.in_ok-judged_hosts-in-Block.ensures names steps)
+    (scope_of c.cut.new.self) (steps_of c.add_step.new.steps.items) c.in_ok-judged_hosts-in-Block.ensures names steps)
 
 pub judged_part-returns-clause-sets : goal.judged_part-returns-clause-sets
 judged_part-returns-clause-sets t c =
     let s = c.args.source.now in
     judged_known s.places.now s.consts.now s.entries.now.entries (walked c.args.k.now c.args.steps.now.items) c.args.spot
-        (host_of c.args.host.now) c.judged_host.new.k c.judged_host.new.steps.items c.judged_host.result c.judged_host.ensures c.requires
+    (host_of c.args.host.now) c.judged_host.new.k c.judged_host.new.steps.items c.judged_host.result c.judged_host.ensures c.requires
 
 pub judged_hosts-loop-host-preserved : goal.judged_hosts-loop-host-preserved
 judged_hosts-loop-host-preserved t c = record {

@@ -5,8 +5,8 @@ use Rattle.loop_plan.proofs.shared.SitePlans.get.Goals as goal
 pub index-requires : goal.index-requires
 index-requires c =
     let h : c.in-Some.slot.now < length c.self.inside.plans.items =
-        slot_within (length c.self.inside.plans.items) c.self.inside.slots.entries c.args.site (Some c.in-Some.slot.now)
-        c.in-Some.ensures.value c.self.invariant in
+    slot_within (length c.self.inside.plans.items) c.self.inside.slots.entries c.args.site (Some c.in-Some.slot.now)
+    c.in-Some.ensures.value c.self.invariant in
     omega (arith, h, c.self.inside.plans.ok.0)
 
 pub returns-in-Some : goal.returns-in-Some

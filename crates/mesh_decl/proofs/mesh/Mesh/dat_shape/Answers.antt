@@ -8,5 +8,7 @@ pub returns : goal.returns
 unfolding dat_set dat_dim
 returns c =
     let x = c.index-decl.result.now in
-    rw (dat_field 0 _ c.args.self.now c.self.view_is c.args.dat (λ (d : DatDecl). d.set) x c.requires c.index-decl.ensures,
-        dat_field 0 _ c.args.self.now c.self.view_is c.args.dat (λ (d : DatDecl). d.dim) x c.requires c.index-decl.ensures) refl
+    rw (
+      dat_field 0 _ c.args.self.now c.self.view_is c.args.dat (λ (d : DatDecl). d.set) x c.requires c.index-decl.ensures,
+      dat_field 0 _ c.args.self.now c.self.view_is c.args.dat (λ (d : DatDecl). d.dim) x c.requires c.index-decl.ensures,
+    ) refl

@@ -1,4 +1,4 @@
-use Rattle.std.proofs.Common.{◌≡◌, ◌+◌, ◌++◌, refl, inr, rules, w32, FitsSigned}
+use Rattle.std.proofs.Common.{◌≡◌, ◌++◌, refl, inr, rules, w32, FitsSigned}
 use Rattle.std.proofs.lemmas.Int.{to_z-of_z}
 use lib.ListN.{replicate}
 use Rattle.op_num.proofs.Public.{passes_on, fewer}
@@ -13,8 +13,8 @@ returns-in-Some-clause-leads c es name zs =
     let fits : FitsSigned w32 c.in-Some.value = search rules in
     let k = short_given c.args.form c.args.tokens.now c.next_short.new.self c.args.left c.in-Some.value c.requires fits c.in-Some.ensures.value (c.in-Some.ensures.some refl) in
     rw (to_z-of_z w32 c.in-Some.value fits)
-        (piece_given c.args.form es name c.args.left zs (zs ++ replicate 1 c.in-Some.value) c.args.tokens.now c.next_short.new.self k.0 1
-        c.in-Some.value c.requires k.1 k.2 refl)
+    (piece_given c.args.form es name c.args.left zs (zs ++ replicate 1 c.in-Some.value) c.args.tokens.now c.next_short.new.self k.0 1
+    c.in-Some.value c.requires k.1 k.2 refl)
 
 pub returns-in-Some-clause-fewer : goal.returns-in-Some-clause-fewer
 returns-in-Some-clause-fewer c =
@@ -42,5 +42,5 @@ returns-clause-leads c es name zs =
     let same : c.next_short.new.self ≡ c.args.tokens.now = search rules in
     let some = rw same at c.in_ok-token.ensures.some in
     piece_given c.args.form es name c.args.left zs (zs ++ replicate c.in_ok-given.given.0 c.in_ok-given.given.1) c.args.tokens.now
-        c.next_value.new.tokens c.in_ok-token.token c.in_ok-given.given.0 c.in_ok-given.given.1 c.requires some c.in_ok-given.ensures.is
-        refl
+    c.next_value.new.tokens c.in_ok-token.token c.in_ok-given.given.0 c.in_ok-given.given.1 c.requires some c.in_ok-given.ensures.is
+    refl

@@ -37,5 +37,5 @@ returns-in-Some-next c =
     rw c.line.ensures (inr (c.loop-entries.invariant.runs ∙ c.in_ok-name.ensures.leads
     ∙ ap (λ o. run_from (next_state c.in_ok-form.form c.loop-entries.entries.entries o) c.read_entry.new.tokens) c.in_default.is
     ∙ run_refused step finish (End c.loop-entries.entries.entries) _ _ c.in-Some-next.token _
-        (record { first = sym c.in-Some-next.ensures.token; rest = c.in-Some-next.ensures.rest })
-        (step-end c.loop-entries.entries.entries c.in-Some-next.token)))
+    (record { first = sym c.in-Some-next.ensures.token; rest = c.in-Some-next.ensures.rest })
+    (step-end c.loop-entries.entries.entries c.in-Some-next.token)))

@@ -1,4 +1,4 @@
-use Rattle.std.proofs.Common.{◌<◌, ◌-◌, [], sym, ap, ◌∙◌, arith, rules, w32, FitsSigned}
+use Rattle.std.proofs.Common.{◌-◌, [], sym, ap, ◌∙◌, arith, rules, w32, FitsSigned}
 use Rattle.std.proofs.lemmas.Int.{to_z-of_z}
 use Rattle.mesh_decl.specs.declared.text.entry.MeshRefusal.TheVariants.{OutOfMemory}
 use Rattle.mesh_decl.specs.Reading.{filled, run_from, step, finish}
@@ -10,8 +10,8 @@ pub returns-in_err-times-clause-leads : goal.returns-in_err-times-clause-leads
 returns-in_err-times-clause-leads c es name =
     passes_on step finish OutOfMemory (filled c.args.form es name c.args.count []) _ _ _ _ _ c.from_residual-in_err-times.ensures.1
     (further step finish OutOfMemory (filled c.args.form es name c.args.count [])
-        (filled c.args.form es name c.loop-left.left c.loop-left.values.items) _ _ _ (c.loop-left.invariant.runs es name)
-        (c.in_err-times.ensures.leads es name c.loop-left.values.items))
+    (filled c.args.form es name c.loop-left.left c.loop-left.values.items) _ _ _ (c.loop-left.invariant.runs es name)
+    (c.in_err-times.ensures.leads es name c.loop-left.values.items))
 
 pub loop-left-preserved : goal.loop-left-preserved
 loop-left-preserved c =

@@ -11,7 +11,7 @@ loop-rest-preserved c =
     let fits : FitsSigned w32 (get_or c.loop-rest.rest.now 0 (pos 0)) = search rules in
     let group = c.group_len-times.ensures.group (get_or c.loop-rest.rest.now 0 (pos 0)) (drop 1 c.loop-rest.rest.now) (cons_of c.loop-rest.rest.now (pos 0) some) in
     let split : groups c.args.form c.loop-rest.rest.now ≡ (c.group_len-times.result, z) ∷ groups c.args.form c.split_at.result.1.now = group
-        ∙ ap (λ xs. (c.group_len-times.result, z) ∷ groups c.args.form xs) (sym c.split_at.ensures.back) in
+    ∙ ap (λ xs. (c.group_len-times.result, z) ∷ groups c.args.form xs) (sym c.split_at.ensures.back) in
     record {
       text = turn c.args.form c.loop-rest.rest.now c.split_at.result.1.now c.group_len-times.result z c.loop-rest.out.items c.put_piece.new.out.items c.put_separator.new.out.items c.is_empty.result
           split (rw (to_z-of_z w32 _ fits) at c.in_ok-put_piece.ensures) c.in_ok-put_separator.ensures c.is_empty.ensures

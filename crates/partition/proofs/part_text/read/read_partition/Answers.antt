@@ -17,4 +17,4 @@ returns-clause-refuses c = refuses c.args.mesh.now c.args.ranks c.args.bytes.now
 pub returns-clause-owners : goal.returns-clause-owners
 returns-clause-owners c =
     owners-given c.args.mesh.now c.args.ranks c.args.bytes.now c.read.result
-        (found c.args.mesh.now c.args.ranks c.args.bytes.now c.read.result (λ o. o.sets.items) c.read.ensures.answers) c.read.ensures.ranks
+    (found c.args.mesh.now c.args.ranks c.args.bytes.now c.read.result (λ o. o.sets.items) c.read.ensures.answers) c.read.ensures.ranks

@@ -26,13 +26,13 @@ pub returns-in_err-next_rank-clause-leads : goal.returns-in_err-next_rank-clause
 returns-in_err-next_rank-clause-leads c t =
     passes_on (step c.args.mesh.now c.args.ranks) finish OutOfMemory (Count t c.args.set) _ _ _ _ _ c.from_residual-in_err-next_rank.ensures.1
     (inr (c.loop-left.invariant.runs t ∙ rank_missing c.args.mesh.now c.args.ranks t c.args.set c.loop-left.left c.loop-left.owners.items _
-        _ (omega arith) c.in_err-next_rank.ensures.none.0 c.in_err-next_rank.ensures.none.1))
+    _ (omega arith) c.in_err-next_rank.ensures.none.0 c.in_err-next_rank.ensures.none.1))
 
 pub returns-in_err-rank-clause-leads : goal.returns-in_err-rank-clause-leads
 returns-in_err-rank-clause-leads c t =
     passes_on (step c.args.mesh.now c.args.ranks) finish OutOfMemory (Count t c.args.set) _ _ _ _ _ c.from_residual-in_err-rank.ensures.1
     (inr (c.loop-left.invariant.runs t ∙ rank_refused c.args.mesh.now c.args.ranks t c.args.set c.loop-left.left c.loop-left.owners.items _
-        _ c.in_ok-next_rank.field-0 _ (omega arith) c.in_ok-next_rank.ensures.some c.in_err-rank.ensures))
+    _ c.in_ok-next_rank.field-0 _ (omega arith) c.in_ok-next_rank.ensures.some c.in_err-rank.ensures))
 
 pub loop-left-preserved : goal.loop-left-preserved
 loop-left-preserved c =
@@ -40,7 +40,7 @@ loop-left-preserved c =
     record {
       runs = λ t. c.loop-left.invariant.runs t
           ∙ rank_given c.args.mesh.now c.args.ranks t c.args.set c.loop-left.left c.loop-left.owners.items _ _ c.in_ok-next_rank.field-0
-              c.in_ok-rank.rank more c.in_ok-next_rank.ensures.some c.in_ok-rank.ensures
+          c.in_ok-rank.rank more c.in_ok-next_rank.ensures.some c.in_ok-rank.ensures
           ∙ ap (λ xs. run_from c.args.mesh.now c.args.ranks (filled t c.args.set (c.loop-left.left - 1) xs) c.next_rank.new.tokens) (sym c.in_ok-push.ensures.items);
       fewer = let h = fewer _ _ _ c.in_ok-next_rank.ensures.some in omega arith;
     }

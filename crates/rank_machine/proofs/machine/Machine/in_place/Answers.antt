@@ -22,34 +22,41 @@ returns-clause-runs c =
     let inside = c.self.inside in
     let step = c.requires.steps 0 c.requires.some in
     let rank : c.args.rank < length inside.memories.items =
-        rank_in inside.memories.items c.args.rank
-        (subst (λ (s : State KernelFault). c.args.rank < length s.memories) (sym c.self.view_is)
-        (subst (λ n. c.args.rank < n) (sym c.requires.sized.ranks) step.2)) in
+    rank_in inside.memories.items c.args.rank
+    (subst (λ (s : State KernelFault). c.args.rank < length s.memories) (sym c.self.view_is)
+    (subst (λ n. c.args.rank < n) (sym c.requires.sized.ranks) step.2)) in
     let slot : c.args.rank < length inside.partials.items =
-        rank_in inside.partials.items c.args.rank
-        (subst (λ (s : State KernelFault). c.args.rank < length s.partials) (sym c.self.view_is)
-        (subst (λ n. c.args.rank < n) (sym c.requires.sized.partials) step.2)) in
+    rank_in inside.partials.items c.args.rank
+    (subst (λ (s : State KernelFault). c.args.rank < length s.partials) (sym c.self.view_is)
+    (subst (λ n. c.args.rank < n) (sym c.requires.sized.partials) step.2)) in
     let here : c.index_mut.result.now.items ≡ row (lists inside.memories.items) c.args.rank = row_is inside.memories.items c.args.rank c.index_mut.result.now rank c.index_mut.ensures.value in
     let there : c.deref_mut.result.now ≡ row (lists inside.partials.items) c.args.rank = c.deref_mut.ensures.value
-        ∙ row_is inside.partials.items c.args.rank c.index_mut-2.result.now slot c.index_mut-2.ensures.value in
+    ∙ row_is inside.partials.items c.args.rank c.index_mut-2.result.now slot c.index_mut-2.ensures.value in
     let stays : length c.run_places-fault.new.partials ≡ length c.index_mut-2.result.now.items = c.run_places-fault.auto.partials ∙ ap length c.deref_mut.ensures.value in
     let new : Share KernelFault = record { cells = c.run_places-fault.new.memory.items; partials = c.run_places-fault.new.partials; fault = stop_in c.run_places-fault.result } in
-    let viewed : State KernelFault = record
-        { memories = lists inside.memories.items; variables = inside.variables.items; partials = lists inside.partials.items; frames =
-        inside.frames; mail = inside.mail; fault = stop_in inside.fault; output = inside.output.items } in
+    let viewed : State KernelFault = record {
+      memories = lists inside.memories.items;
+      variables = inside.variables.items;
+      partials = lists inside.partials.items;
+      frames =
+          inside.frames;
+      mail = inside.mail;
+      fault = stop_in inside.fault;
+      output = inside.output.items;
+    } in
     let memories = map-set (λ (v : Vec ℤ Global). v.items) inside.memories.items c.args.rank c.run_places-fault.new.memory in
     let partials = row_put inside.partials.items c.args.rank c.index_mut-2.result.now new.partials new.partials stays refl in
     let from = λ (ms ps vs : List ℤ). Reaches p l t c.args.item c.args.rank c.args.room.now.constants.items vs c.args.places.now
-        (record { cells = ms; partials = ps; fault = stop_in inside.fault }) (length c.args.places.now) new in
+    (record { cells = ms; partials = ps; fault = stop_in inside.fault }) (length c.args.places.now) new in
     subst (λ (s : State KernelFault). (z : Share KernelFault)
     × Reaches p l t c.args.item c.args.rank c.args.room.now.constants.items s.variables c.args.places.now (share_of c.args.rank s) (length c.args.places.now) z
     × (of_parts viewed (lists (set inside.memories.items c.args.rank c.run_places-fault.new.memory))
-        (lists (set inside.partials.items c.args.rank (with_items c.index_mut-2.result.now new.partials))) new.fault ≡ with_share
-        c.args.rank z s)) c.self.view_is (
+    (lists (set inside.partials.items c.args.rank (with_items c.index_mut-2.result.now new.partials))) new.fault ≡ with_share
+    c.args.rank z s)) c.self.view_is (
       new,
       subst (λ vs. from (row (lists inside.memories.items) c.args.rank) (row (lists inside.partials.items) c.args.rank) vs) c.deref.ensures.value
           (subst (λ ms. from ms (row (lists inside.partials.items) c.args.rank) c.deref.result.now) here
-              (subst (λ ps. from c.index_mut.result.now.items ps c.deref.result.now) there c.run_places-fault.ensures.runs)),
+          (subst (λ ps. from c.index_mut.result.now.items ps c.deref.result.now) there c.run_places-fault.ensures.runs)),
       ap₂ (λ ms ps. of_parts viewed ms ps new.fault) memories partials,
     )
 
@@ -58,9 +65,9 @@ run_places-fault-requires-clause-memory c =
     let inside = c.self.inside in
     let step = c.requires.steps 0 c.requires.some in
     let rank : c.args.rank < length inside.memories.items =
-        rank_in inside.memories.items c.args.rank
-        (subst (λ (s : State KernelFault). c.args.rank < length s.memories) (sym c.self.view_is)
-        (subst (λ n. c.args.rank < n) (sym c.requires.sized.ranks) step.2)) in
+    rank_in inside.memories.items c.args.rank
+    (subst (λ (s : State KernelFault). c.args.rank < length s.memories) (sym c.self.view_is)
+    (subst (λ n. c.args.rank < n) (sym c.requires.sized.ranks) step.2)) in
     ap length (row_is inside.memories.items c.args.rank c.index_mut.result.now rank c.index_mut.ensures.value)
     ∙ ap (λ (s : State KernelFault). length (row s.memories c.args.rank)) c.self.view_is ∙ c.requires.sized.widths c.args.rank step.2
 
@@ -69,9 +76,9 @@ run_places-fault-requires-clause-partials c =
     let inside = c.self.inside in
     let step = c.requires.steps 0 c.requires.some in
     let slot : c.args.rank < length inside.partials.items =
-        rank_in inside.partials.items c.args.rank
-        (subst (λ (s : State KernelFault). c.args.rank < length s.partials) (sym c.self.view_is)
-        (subst (λ n. c.args.rank < n) (sym c.requires.sized.partials) step.2)) in
+    rank_in inside.partials.items c.args.rank
+    (subst (λ (s : State KernelFault). c.args.rank < length s.partials) (sym c.self.view_is)
+    (subst (λ n. c.args.rank < n) (sym c.requires.sized.partials) step.2)) in
     ap length (c.deref_mut.ensures.value ∙ row_is inside.partials.items c.args.rank c.index_mut-2.result.now slot c.index_mut-2.ensures.value)
     ∙ ap (λ (s : State KernelFault). length (row s.partials c.args.rank)) c.self.view_is ∙ c.requires.sized.slots c.args.rank step.2
 

@@ -57,9 +57,16 @@ returns-clause-ran g c =
     let memories : lists ms ≡ st.memories = ap (λ (s : State KernelFault). s.memories) c.self.view_is in
     let partials : lists ps ≡ st.partials = ap (λ (s : State KernelFault). s.partials) c.self.view_is in
     let variables : vs ≡ st.variables = c.deref.ensures.value ∙ ap (λ (s : State KernelFault). s.variables) c.self.view_is in
-    let viewed : State KernelFault = record
-        { memories = lists ms; variables = inside.variables.items; partials = lists ps; frames = inside.frames; mail = inside.mail; fault =
-        stop_in inside.fault; output = inside.output.items } in
+    let viewed : State KernelFault = record {
+      memories = lists ms;
+      variables = inside.variables.items;
+      partials = lists ps;
+      frames = inside.frames;
+      mail = inside.mail;
+      fault =
+          stop_in inside.fault;
+      output = inside.output.items;
+    } in
     let cells : lists ((with_items inside.memories c.run_lent-kept.new.memories).items) ≡ map (λ (s : Share KernelFault). s.cells) news =
     ap lists (refilled inside.memories c.run_lent-kept.new.memories (c.run_lent-kept.auto.memories ∙ ap length c.deref_mut.ensures.value) ∙ ran.memories) ∙ same_rows ys in
     let amounts : lists ((with_items inside.partials c.run_lent-kept.new.partials).items) ≡ map (λ (s : Share KernelFault). s.partials) news =

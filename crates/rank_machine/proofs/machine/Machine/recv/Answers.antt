@@ -14,22 +14,29 @@ pub returns : goal.returns
 returns c =
     let inside = c.self.inside in
     let rank : c.args.rank < length inside.memories.items =
-        rank_in inside.memories.items c.args.rank
-        (subst (λ (s : State KernelFault). c.args.rank < length s.memories) (sym c.self.view_is) c.requires.rank) in
+    rank_in inside.memories.items c.args.rank
+    (subst (λ (s : State KernelFault). c.args.rank < length s.memories) (sym c.self.view_is) c.requires.rank) in
     let here : c.deref_mut.result.now ≡ row (lists inside.memories.items) c.args.rank = c.deref_mut.ensures.value
-        ∙ row_is inside.memories.items c.args.rank c.index_mut.result.now rank c.index_mut.ensures.value in
+    ∙ row_is inside.memories.items c.args.rank c.index_mut.result.now rank c.index_mut.ensures.value in
     let kept : length c.recv.new.memory ≡ length c.index_mut.result.now.items = c.recv.auto.memory ∙ ap length c.deref_mut.ensures.value in
-    let viewed : State KernelFault = record
-        { memories = lists inside.memories.items; variables = inside.variables.items; partials = lists inside.partials.items; frames =
-        inside.frames; mail = inside.mail; fault = stop_in inside.fault; output = inside.output.items } in
+    let viewed : State KernelFault = record {
+      memories = lists inside.memories.items;
+      variables = inside.variables.items;
+      partials = lists inside.partials.items;
+      frames =
+          inside.frames;
+      mail = inside.mail;
+      fault = stop_in inside.fault;
+      output = inside.output.items;
+    } in
     let memories : lists (set inside.memories.items c.args.rank (with_items c.index_mut.result.now c.recv.new.memory)) ≡ set
-        (lists inside.memories.items) c.args.rank
-        (arrived c.args.spans.now (first_post c.args.from c.args.rank inside.mail.posts) (row (lists inside.memories.items) c.args.rank)) =
+    (lists inside.memories.items) c.args.rank
+    (arrived c.args.spans.now (first_post c.args.from c.args.rank inside.mail.posts) (row (lists inside.memories.items) c.args.rank)) =
     row_put inside.memories.items c.args.rank c.index_mut.result.now c.recv.new.memory
-        (arrived c.args.spans.now (first_post c.args.from c.args.rank inside.mail.posts) (row (lists inside.memories.items) c.args.rank))
-        kept
+    (arrived c.args.spans.now (first_post c.args.from c.args.rank inside.mail.posts) (row (lists inside.memories.items) c.args.rank))
+    kept
     (c.recv.ensures.memory ∙ ap (arrived c.args.spans.now (first_post c.args.from c.args.rank inside.mail.posts)) here) in
     subst (λ (s : State KernelFault). of_parts viewed
-        (lists (set inside.memories.items c.args.rank (with_items c.index_mut.result.now c.recv.new.memory))) c.recv.new.self ≡ taken
-        c.args.rank c.args.from c.args.spans.now s) c.self.view_is
+    (lists (set inside.memories.items c.args.rank (with_items c.index_mut.result.now c.recv.new.memory))) c.recv.new.self ≡ taken
+    c.args.rank c.args.from c.args.spans.now s) c.self.view_is
     (ap₂ (λ ms b. of_parts viewed ms b) memories c.recv.ensures.mail)

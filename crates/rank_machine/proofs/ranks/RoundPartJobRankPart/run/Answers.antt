@@ -32,8 +32,8 @@ returns g c =
     let places : c.as_slice-places.result.now ≡ places_on c.args.self.now.lists.now r =
     c.as_slice-places.ensures.value ∙ place_is c.args.self.now.lists.now r c.index-self-index.result c.requires.takes.listed in
     let ran = λ (xs : List ℕ) (from to : List ℤ). Reaches p l t k r cs vs xs
-        (record { cells = c.args.part.now.memory.items; partials = from; fault = None }) (length xs)
-        (record { cells = new.memory.items; partials = to; fault = kept }) in
+    (record { cells = c.args.part.now.memory.items; partials = from; fault = None }) (length xs)
+    (record { cells = new.memory.items; partials = to; fault = kept }) in
     record {
       reaches = subst (λ (z : List ℤ). ran (places_on c.args.self.now.lists.now r) c.args.part.now.partials.items z)
           (sym (refilled c.args.part.now.partials new.partials (c.run_places-part.auto.partials ∙ ap length c.deref_mut.ensures.value)))

@@ -11,6 +11,6 @@ row_here c = c.deref_mut.ensures.value ∙
 pub returns-clause-cells : goal.returns-clause-cells
 returns-clause-cells c =
     row_put c.args.memories.now c.args.rank (get_or c.args.memories.now c.args.rank c.index-memories-rank.result) c.copy.new.target
-        (with_window c.args.at (cells_at c.args.from c.args.dim c.args.frame.now) (get_or (lists c.args.memories.now) c.args.rank []))
+    (with_window c.args.at (cells_at c.args.from c.args.dim c.args.frame.now) (get_or (lists c.args.memories.now) c.args.rank []))
     (c.copy.auto.target ∙ ap length c.deref_mut.ensures.value)
     (c.copy.ensures ∙ ap (with_window c.args.at (cells_at c.args.from c.args.dim c.args.frame.now)) (row_here c))

@@ -11,16 +11,16 @@ no_span = record { rank = 0; at = 0; dim = 0 }
 pub loop-span-preserved : goal.loop-span-preserved
 loop-span-preserved c =
     let e : drop c.loop-span.span-index c.args.spans.now ≡ get_or c.args.spans.now c.loop-span.span-index no_span
-        ∷ drop (c.loop-span.span-index + 1) c.args.spans.now =
-        drop-cons c.args.spans.now c.loop-span.span-index no_span c.loop-span-test.true
-        ∙ ap (λ n. get_or c.args.spans.now c.loop-span.span-index no_span ∷ drop n c.args.spans.now) (sym (add-one c.loop-span.span-index))
-        in
+    ∷ drop (c.loop-span.span-index + 1) c.args.spans.now =
+    drop-cons c.args.spans.now c.loop-span.span-index no_span c.loop-span-test.true
+    ∙ ap (λ n. get_or c.args.spans.now c.loop-span.span-index no_span ∷ drop n c.args.spans.now) (sym (add-one c.loop-span.span-index))
+    in
     let inv = c.loop-span.invariant in
     let room : c.loop-span.from + total_all (get_or c.args.spans.now c.loop-span.span-index no_span
-        ∷ drop (c.loop-span.span-index + 1) c.args.spans.now) ≤ length c.args.frame.now =
-        subst (λ l. c.loop-span.from + total_all l ≤ length c.args.frame.now) e inv.room in
+    ∷ drop (c.loop-span.span-index + 1) c.args.spans.now) ≤ length c.args.frame.now =
+    subst (λ l. c.loop-span.from + total_all l ≤ length c.args.frame.now) e inv.room in
     let next = next_put c.loop-span.from c.args.frame.now (get_or c.args.spans.now c.loop-span.span-index no_span)
-        (drop (c.loop-span.span-index + 1) c.args.spans.now) (lists c.loop-span.memories) (lists c.put_row.new.memories)
+    (drop (c.loop-span.span-index + 1) c.args.spans.now) (lists c.loop-span.memories) (lists c.put_row.new.memories)
     (subst (Within_all (lists c.loop-span.memories)) e inv.inside) room c.put_row.ensures.cells in
     record {
       inside = next.0;

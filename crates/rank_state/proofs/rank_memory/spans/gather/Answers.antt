@@ -9,4 +9,4 @@ returns-clause-cells c =
     let done : c.loop-span.frame ≡ filled 0 c.args.memory.now c.args.spans.now c.args.frame.now = grind (arith, common_steps) in
     let e : 0 + total c.args.spans.now ≡ total c.args.spans.now = omega arith in
     ap (take (total c.args.spans.now)) done ∙ ap (λ n. take n (filled 0 c.args.memory.now c.args.spans.now c.args.frame.now)) (sym e)
-        ∙ filled_front 0 c.args.memory.now c.args.spans.now c.args.frame.now (omega arith) c.requires.inside
+    ∙ filled_front 0 c.args.memory.now c.args.spans.now c.args.frame.now (omega arith) c.requires.inside

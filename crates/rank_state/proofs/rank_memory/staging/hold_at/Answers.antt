@@ -15,8 +15,8 @@ pub returns-clause-pane : goal.returns-clause-pane
 returns-clause-pane c k =
     ap (Holds k)
     (take-take (length c.args.cells.now) c.args.stride
-        (drop c.args.at (put_mid c.args.at (c.args.at + length c.args.cells.now - c.args.at) c.args.staging.now c.copy_from_slice.new.self))
-        c.requires.fits
+    (drop c.args.at (put_mid c.args.at (c.args.at + length c.args.cells.now - c.args.at) c.args.staging.now c.copy_from_slice.new.self))
+    c.requires.fits
     ∙ (mid_same c.args.at (length c.args.cells.now) c.args.staging.now c.copy_from_slice.new.self (within c) (same_length c) ∙ c.copy_from_slice.ensures.after))
 
 pub returns-clause-others : goal.returns-clause-others
@@ -24,4 +24,4 @@ returns-clause-others c b n =
     ⊎_elim
     (λ (le : b + n ≤ c.args.at). before_mid c.args.at (length c.args.cells.now) b n c.args.staging.now c.copy_from_slice.new.self (within c) le)
     (λ (le : c.args.at + c.args.stride ≤ b). after_mid c.args.at (length c.args.cells.now) b n c.args.staging.now c.copy_from_slice.new.self
-        (within c) (same_length c) (omega (arith, le, c.requires.fits)))
+    (within c) (same_length c) (omega (arith, le, c.requires.fits)))

@@ -34,8 +34,8 @@ push-requires-clause-room c =
     let ld : c.loop-place.place < map_dim g m = omega (arith, c.loop-place-test.true, ap (λ z. z.2) c.map_ends-dim.ensures) in
     let r : get_or c.loop-place.filling.room t 0 ≡ get_or c.args.filling.now.room t 0 = ap (λ (z : List ℕ). get_or z t 0) inv.room in
     rw r (room_left g m c.args.element c.loop-place.place t c.args.element (get_or c.args.filling.now.room t 0)
-        (get_or c.loop-place.filling.rows t []) (get_or c.args.filling.now.rows t []) ld c.target-target.ensures.value (inv.rows t lt)
-        (c.requires.room t lt))
+    (get_or c.loop-place.filling.rows t []) (get_or c.args.filling.now.rows t []) ld c.target-target.ensures.value (inv.rows t lt)
+    (c.requires.room t lt))
 
 pub loop-place-preserved : goal.loop-place-preserved
 loop-place-preserved c =

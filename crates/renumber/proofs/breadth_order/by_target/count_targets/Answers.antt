@@ -23,7 +23,7 @@ loop-place-preserved c =
     let t : ℕ = c.target-target.result in
     let lt : t < length c.loop-place.counts = omega (arith, c.target-target.ensures.within, c.requires.counts, c.loop-place.auto.counts) in
     λ x l. counted c.loop-place.counts c.args.counts.now t t x c.loop-place.place (λ i. target c.args.mesh.now c.args.map c.args.element i)
-        lt refl c.target-target.ensures.value c.loop-place.invariant l (omega (arith, lt, c.loop-place.auto.counts))
+    lt refl c.target-target.ensures.value c.loop-place.invariant l (omega (arith, lt, c.loop-place.auto.counts))
 
 pub returns : goal.returns
 unfolding times

@@ -38,7 +38,7 @@ add_to_targets-requires-clause-room c = λ x l.
     let lx : x < set_size g (map_to g m) = omega (arith, l, inv.count) in
     let from : c.set_size-element-end.result ≡ set_size g (map_from g m) = c.set_size-element-end.ensures ∙ ap (set_size g) (ap (λ z. z.0) c.map_ends-from.ensures) in
     row_fits g m c.loop-element.element x (set_size g (map_from g m)) (get_or c.loop-element.filling.room x 0)
-        (get_or c.loop-element.filling.rows x []) (omega (arith, from, c.loop-element-test.true)) (inv.rows x lx) (inv.room x lx)
+    (get_or c.loop-element.filling.rows x []) (omega (arith, from, c.loop-element-test.true)) (inv.rows x lx) (inv.room x lx)
 
 pub loop-element-preserved : goal.loop-element-preserved
 loop-element-preserved c =

@@ -18,7 +18,7 @@ count_targets-requires-clause-few c = λ x l.
     let lx : x < set_size g (map_to g m) = omega (arith, l, c.deref_mut.ensures.len, c.loop-element.counts.ok.0, inv.0) in
     let from : c.set_size-element-end.result ≡ set_size g (map_from g m) = c.set_size-element-end.ensures ∙ ap (set_size g) (ap (λ z. z.0) c.map_ends-from.ensures) in
     fits g m c.loop-element.element x (set_size g (map_from g m)) (get_or c.deref_mut.result.now x 0) c.requires.at.dim
-        (c.requires.sizes (map_from g m)) (omega (arith, from, c.loop-element-test.true)) (v ∙ inv.1 x lx)
+    (c.requires.sizes (map_from g m)) (omega (arith, from, c.loop-element-test.true)) (v ∙ inv.1 x lx)
 
 pub loop-element-preserved : goal.loop-element-preserved
 loop-element-preserved c =

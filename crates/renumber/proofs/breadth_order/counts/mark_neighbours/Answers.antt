@@ -60,5 +60,5 @@ returns-clause-count c =
     let having = c.args.having.now in
     let e : c.loop-element.element-index ≡ length having = omega arith in
     c.loop-element.invariant.count ∙ count_agree (length last) (λ y. nat_eq (get_or c.loop-element.last y 0) c.args.number)
-        (λ y. any_below (length having) (λ k. has_target c.args.mesh.now c.args.map (get_or having k 0) y) && not (nat_eq c.args.number y))
+    (λ y. any_below (length having) (λ k. has_target c.args.mesh.now c.args.map (get_or having k 0) y) && not (nat_eq c.args.number y))
     (λ y l. c.loop-element.invariant.marks y l ∙ ap (λ z. any_below z (λ k. has_target c.args.mesh.now c.args.map (get_or having k 0) y) && not (nat_eq c.args.number y)) e)

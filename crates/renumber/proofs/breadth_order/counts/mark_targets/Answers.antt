@@ -12,8 +12,8 @@ unfolding has_target
 returns-clause-marks c = λ y l.
     let e : c.loop-place.place ≡ map_dim c.args.mesh.now c.args.map = omega (arith, ap (λ z. z.2) c.map_ends-dim.ensures) in
     c.loop-place.invariant.marks y l ∙ ap
-        (λ z. nat_eq (get_or c.args.last.now y 0) c.args.number ||
-        (any_below z (λ i. nat_eq (target c.args.mesh.now c.args.map c.args.element i) y) && not (nat_eq c.args.number y))) e
+    (λ z. nat_eq (get_or c.args.last.now y 0) c.args.number ||
+    (any_below z (λ i. nat_eq (target c.args.mesh.now c.args.map c.args.element i) y) && not (nat_eq c.args.number y))) e
 
 -- one more mark is one more element
 pub overflow_add-count : goal.overflow_add-count

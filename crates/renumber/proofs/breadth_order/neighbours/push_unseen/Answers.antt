@@ -45,8 +45,8 @@ unfolding has_target
 returns-clause-new c = λ y k.
     let e : c.loop-place.place ≡ map_dim c.args.mesh.now c.args.map = omega (arith, ap (λ z. z.2) c.map_ends-dim.ensures) in
     subst (λ z. Contains c.args.found.now.items y ⊎
-        ((any_below z (λ i. nat_eq (target c.args.mesh.now c.args.map c.args.element i) y) ≡ true) × (y ≢ c.args.besides))) e
-        (c.loop-place.invariant.new y k)
+    ((any_below z (λ i. nat_eq (target c.args.mesh.now c.args.map c.args.element i) y) ≡ true) × (y ≢ c.args.besides))) e
+    (c.loop-place.invariant.new y k)
 
 pub returns-clause-all : goal.returns-clause-all
 unfolding has_target

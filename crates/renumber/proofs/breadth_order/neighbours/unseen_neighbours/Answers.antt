@@ -83,8 +83,8 @@ returns c =
     let inv = c.loop-having.invariant in
     let row : having ≡ havers g m (set_size g (map_from g m)) x = c.row-having-items.ensures ∙ c.requires.by.row x c.requires.element in
     let all : All (λ y. are_neighbours g m x y ≡ true) new =
-        All-permutation (λ y. are_neighbours g m x y ≡ true) old new c.sort_unstable_by_key.ensures.permutation
-        (λ k d l. inv.near (get_or old k d) (k, l, get_or_default old k (get_or old k d) d l)) in
+    All-permutation (λ y. are_neighbours g m x y ≡ true) old new c.sort_unstable_by_key.ensures.permutation
+    (λ k d l. inv.near (get_or old k d) (k, l, get_or_default old k (get_or old k d) d l)) in
     let sorted = IsNonDecreasingBy-from_sort_by_key (keyed c.args.keys.now) new c.sort_unstable_by_key.ensures.sorted (λ a r q k. search rules) in
     record {
       near = λ k l. all k 0 l;

@@ -1,4 +1,4 @@
-use Rattle.std.proofs.Common.{◌≡◌, ◌<◌, ◌+◌, ◌-◌, ◌++◌, take, length, sym, rules}
+use Rattle.std.proofs.Common.{◌≡◌, ◌<◌, ◌++◌, take, length, sym, rules}
 use Rattle.std.specs.List.{flat_map}
 use Rattle.mesh_decl.specs.Printed.{rows, row_text}
 use Rattle.run_model.proofs.gather.Growing.{grows_on}

@@ -1,4 +1,4 @@
-use Rattle.std.proofs.Common.{◌≡◌, ◌++◌, ◌+◌, sym, ap, ◌∙◌, append_assoc, add-one}
+use Rattle.std.proofs.Common.{◌++◌, sym, ap, ◌∙◌, append_assoc, add-one}
 use Rattle.run_model.specs.Dump.{dat_text, dats_text}
 use Rattle.run_model.proofs.gather.Growing.{grows_on}
 use Rattle.run_model.proofs.gather.dumps.put_dats.Goals as goal

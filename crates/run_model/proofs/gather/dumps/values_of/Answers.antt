@@ -1,4 +1,4 @@
-use Rattle.std.proofs.Common.{◌≡◌, ◌≤◌, ◌+◌, ◌*◌, length, drop, subst}
+use Rattle.std.proofs.Common.{◌≡◌, length, drop, subst}
 use Rattle.run_model.proofs.gather.Held.{base_at, base_fits, values_fit}
 use Rattle.run_model.proofs.gather.dumps.values_of.Goals as goal
 

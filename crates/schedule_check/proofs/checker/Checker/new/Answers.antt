@@ -71,7 +71,7 @@ returns c =
       plan = refl;
       marks = λ t st. c.in_ok-marks.ensures.open t
           ((c.tests_decide.ensures.steps (outline_of c.in_ok-marks.marks) t).0
-              (c.alike_outlines_judge_alike.ensures.steps (outline_of c.in_ok-marks.marks) o c.in_ok-marks.ensures.plan.alike t
-              ∙ (c.tests_decide.ensures.steps o t).1 st));
+          (c.alike_outlines_judge_alike.ensures.steps (outline_of c.in_ok-marks.marks) o c.in_ok-marks.ensures.plan.alike t
+          ∙ (c.tests_decide.ensures.steps o t).1 st));
       load = refl;
     })

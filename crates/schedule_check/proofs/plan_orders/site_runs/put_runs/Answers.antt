@@ -1,4 +1,4 @@
-use Rattle.std.proofs.Common.{◌<◌, ◌∙◌, sym, subst, length, arith}
+use Rattle.std.proofs.Common.{sym, subst, length, arith}
 use Rattle.bound_program.specs.Values.{bound_of}
 use Rattle.loop_plan.specs.SharedPlans.{SitePlanValue, site_plan_of}
 use Rattle.schedule_check.specs.Runs.{AreRunsOf}

@@ -9,12 +9,12 @@ use Rattle.schedule_steps.proofs.text.read.next_step.Goals as goal
 pub returns-in_err-token-clause-leads : goal.returns-in_err-token-clause-leads
 returns-in_err-token-clause-leads c ls n =
     passes_on step finish OutOfMemory (Between ls) _ _ _ _ _ c.from_residual.ensures.1
-        (inr (run_end step finish (Between ls) _ _ c.in_err-token.ensures.none.0 (ap Err (sym c.in_err-token.ensures.none.1))))
+    (inr (run_end step finish (Between ls) _ _ c.in_err-token.ensures.none.0 (ap Err (sym c.in_err-token.ensures.none.1))))
 
 pub returns-in_err-step_word-clause-leads : goal.returns-in_err-step_word-clause-leads
 returns-in_err-step_word-clause-leads c ls n =
     passes_on step finish OutOfMemory (Between ls) _ _ _ _ _ c.from_residual-in_err-step_word.ensures.1
-        (inr (word_refused ls c.args.count _ _ c.in_ok-token.token _ n c.in_ok-token.ensures.some c.in_err-step_word.ensures))
+    (inr (word_refused ls c.args.count _ _ c.in_ok-token.token _ n c.in_ok-token.ensures.some c.in_err-step_word.ensures))
 
 pub returns-in_err-step-in-Some-clause-leads : goal.returns-in_err-step-in-Some-clause-leads
 returns-in_err-step-in-Some-clause-leads c ls n =

@@ -18,5 +18,5 @@ returns-in-Some-next c =
     rw c.line.ensures (inr (c.loop-lines.invariant ∙ c.in_ok-line.ensures.leads c.loop-lines.lines.items count
     ∙ ap (λ o. run_from (next_state c.loop-lines.lines.items o) c.next_step.new.tokens) c.in_default.is
     ∙ run_refused step finish (End c.loop-lines.lines.items) _ _ c.in-Some-next.token _
-        (record { first = sym c.in-Some-next.ensures.token; rest = c.in-Some-next.ensures.rest })
-        (step-end c.loop-lines.lines.items c.in-Some-next.token)))
+    (record { first = sym c.in-Some-next.ensures.token; rest = c.in-Some-next.ensures.rest })
+    (step-end c.loop-lines.lines.items c.in-Some-next.token)))

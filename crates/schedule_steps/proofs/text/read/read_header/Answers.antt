@@ -13,27 +13,27 @@ returns-in_err-magic c =
 pub returns-then-not-is_magic : goal.returns-then-not-is_magic
 returns-then-not-is_magic c =
     rw c.line.ensures (inr (run_refused step finish Magic _ _ c.in_ok-magic.magic _ c.in_ok-magic.ensures.some
-        (step-no_magic c.in_ok-magic.magic (ap is_magic (sym c.text.ensures) ∙ sym c.is_magic.ensures ∙ c.if-not-is_magic.true))))
+    (step-no_magic c.in_ok-magic.magic (ap is_magic (sym c.text.ensures) ∙ sym c.is_magic.ensures ∙ c.if-not-is_magic.true))))
 
 pub returns-in_err-version : goal.returns-in_err-version
 returns-in_err-version c =
     passes_on step finish OutOfMemory Magic _ _ _ _ _ c.from_residual-in_err-version.ensures.1
     (inr (run_token step finish Magic Version _ _ c.in_ok-magic.magic c.in_ok-magic.ensures.some
-        (step-magic c.in_ok-magic.magic (ap is_magic (sym c.text.ensures) ∙ sym c.is_magic.ensures ∙ c.if-not-is_magic.false))
+    (step-magic c.in_ok-magic.magic (ap is_magic (sym c.text.ensures) ∙ sym c.is_magic.ensures ∙ c.if-not-is_magic.false))
     ∙ run_end step finish Version _ _ c.in_err-version.ensures.none.0 (ap Err (sym c.in_err-version.ensures.none.1))))
 
 pub returns-then-not-is_version : goal.returns-then-not-is_version
 returns-then-not-is_version c =
     rw c.line-then-not-is_version.ensures
-        (inr (run_token step finish Magic Version _ _ c.in_ok-magic.magic c.in_ok-magic.ensures.some
-        (step-magic c.in_ok-magic.magic (ap is_magic (sym c.text.ensures) ∙ sym c.is_magic.ensures ∙ c.if-not-is_magic.false))
+    (inr (run_token step finish Magic Version _ _ c.in_ok-magic.magic c.in_ok-magic.ensures.some
+    (step-magic c.in_ok-magic.magic (ap is_magic (sym c.text.ensures) ∙ sym c.is_magic.ensures ∙ c.if-not-is_magic.false))
     ∙ run_refused step finish Version _ _ c.in_ok-version.version _ c.in_ok-version.ensures.some
-        (step-no_version c.in_ok-version.version (ap is_version (sym c.text-2.ensures) ∙ sym c.is_version.ensures
-        ∙ c.if-not-is_version.true))))
+    (step-no_version c.in_ok-version.version (ap is_version (sym c.text-2.ensures) ∙ sym c.is_version.ensures
+    ∙ c.if-not-is_version.true))))
 
 pub returns : goal.returns
 returns c =
     run_token step finish Magic Version _ _ c.in_ok-magic.magic c.in_ok-magic.ensures.some
-        (step-magic c.in_ok-magic.magic (ap is_magic (sym c.text.ensures) ∙ sym c.is_magic.ensures ∙ c.if-not-is_magic.false))
+    (step-magic c.in_ok-magic.magic (ap is_magic (sym c.text.ensures) ∙ sym c.is_magic.ensures ∙ c.if-not-is_magic.false))
     ∙ run_token step finish Version (Between []) _ _ c.in_ok-version.version c.in_ok-version.ensures.some
-        (step-version c.in_ok-version.version (ap is_version (sym c.text-2.ensures) ∙ sym c.is_version.ensures ∙ c.if-not-is_version.false))
+    (step-version c.in_ok-version.version (ap is_version (sym c.text-2.ensures) ∙ sym c.is_version.ensures ∙ c.if-not-is_version.false))

@@ -32,7 +32,7 @@ pub after-self-inside-requires-clause-frames : goal.after-self-inside-requires-c
 after-self-inside-requires-clause-frames c =
     let v : Marked = c.self.inside.marks in
     let well : (is_step (outline_of v) c.args.step ≡ true) × (taken v c.args.step ≡ false) =
-        judged_well (outline_of v) (taken v) c.args.step (c.in_ok-take_step.ensures.answer (outline_of v) (own v)) in
+    judged_well (outline_of v) (taken v) c.args.step (c.in_ok-take_step.ensures.answer (outline_of v) (own v)) in
     one_fits v c.take_step.new.marks (rows c.self.inside.cells.items) c.self.inside.load.open_elements c.self.inside.load.cells c.args.step c.self.invariant c.in_ok-take_step.ensures.ok well.0 well.1
 
 pub after-self-inside-requires-clause-mail : goal.after-self-inside-requires-clause-mail
@@ -40,7 +40,7 @@ after-self-inside-requires-clause-mail c =
     let v : Marked = c.self.inside.marks in
     let cells : List (List ℕ) = rows c.self.inside.cells.items in
     let well : (is_step (outline_of v) c.args.step ≡ true) × (taken v c.args.step ≡ false) =
-        judged_well (outline_of v) (taken v) c.args.step (c.in_ok-take_step.ensures.answer (outline_of v) (own v)) in
+    judged_well (outline_of v) (taken v) c.args.step (c.in_ok-take_step.ensures.answer (outline_of v) (own v)) in
     let e : c.cells_of-cells.result ≡ step_cells (cells_in cells v) c.args.step = rw (← c.self.view_is) at c.cells_of-cells.ensures in
     message_fits v c.take_step.new.marks cells c.self.inside.load.open_elements c.self.inside.load.cells c.args.step c.self.invariant c.in_ok-take_step.ensures.ok well.0 well.1 c.cells_of-cells.result
     (subst (λ z. z ≤ c.self.invariant.most) (sym e) (at_most (cells_in cells v) c.self.invariant.most c.self.invariant.messages c.args.step))
@@ -50,7 +50,7 @@ invariant_of-self-2 c =
     let v : Marked = c.self.inside.marks in
     let cells : List (List ℕ) = rows c.self.inside.cells.items in
     let well : (is_step (outline_of v) c.args.step ≡ true) × (taken v c.args.step ≡ false) =
-        judged_well (outline_of v) (taken v) c.args.step (c.in_ok-take_step.ensures.answer (outline_of v) (own v)) in
+    judged_well (outline_of v) (taken v) c.args.step (c.in_ok-take_step.ensures.answer (outline_of v) (own v)) in
     let e : c.cells_of-cells.result ≡ step_cells (cells_in cells v) c.args.step = rw (← c.self.view_is) at c.cells_of-cells.ensures in
     let loads = c.after-self-inside.ensures (cells_in cells v) (subst (λ z. HasCells (cells_in cells v) c.args.step z) (sym e) (has_cells (cells_in cells v) c.args.step)) in
     rw loads (room_after v c.take_step.new.marks cells c.self.inside.load.open_elements c.self.inside.load.cells c.args.step c.self.invariant c.in_ok-take_step.ensures.ok well.0 well.1)

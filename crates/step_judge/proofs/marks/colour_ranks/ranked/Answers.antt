@@ -7,5 +7,5 @@ pub returns : goal.returns
 returns c =
     let past : length c.args.colours.now ≤ c.loop-colour.colour-index = c.loop-colour-test.false in
     ranked_from c.args.colours.now c.in_ok-sorted.sorted.items c.loop-colour.of.items (omega arith) c.in_ok-sorted.ensures.size
-        (permuted_at c.args.colours.now c.in_ok-sorted.sorted.items c.in_ok-sorted.ensures.size c.in_ok-sorted.ensures.there)
+    (permuted_at c.args.colours.now c.in_ok-sorted.sorted.items c.in_ok-sorted.ensures.size c.in_ok-sorted.ensures.there)
     (λ i lt. c.loop-colour.invariant.points i (omega arith))

@@ -7,6 +7,6 @@ pub loop-here-preserved : goal.loop-here-preserved
 loop-here-preserved c =
     let lt : c.loop-here.here < length c.args.sends.now.of = omega arith in
     let not : ((get_or c.args.sends.now.of c.loop-here.here 0 == c.args.from) &&
-        (get_or c.args.receipts.now.of c.loop-here.here 0 == c.args.to)) ≡ false =
-        rw (← c.stage-first.ensures, ← c.stage-second.ensures) (sym c.is_pair.ensures ∙ c.if-is_pair.false) in
+    (get_or c.args.receipts.now.of c.loop-here.here 0 == c.args.to)) ≡ false =
+    rw (← c.stage-first.ensures, ← c.stage-second.ensures) (sym c.is_pair.ensures ∙ c.if-is_pair.false) in
     record { within = omega arith; rest = pair_not_here _ _ _ _ _ lt c.requires not c.loop-here.invariant.rest }

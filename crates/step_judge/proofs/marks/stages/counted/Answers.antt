@@ -8,6 +8,6 @@ overflow_add-index_mut c =
     let inside : get_or c.args.of.now c.loop-stage.stage-index 0 < length c.loop-stage.left.items = omega (arith, c.requires.below c.loop-stage.stage-index) in
     let got : c.index_mut.result.now ≡ get_or c.loop-stage.left.items (get_or c.args.of.now c.loop-stage.stage-index 0) 0 = get_or_read _ _ _ inside c.index_mut.ensures.value 0 in
     let room : get_or c.loop-stage.left.items (get_or c.args.of.now c.loop-stage.stage-index 0) 0 + 1 ≤ length c.args.of.now =
-        count_room c.args.of.now c.loop-stage.stage-index _ c.loop-stage-test.true
-        (c.loop-stage.invariant.sum _ (omega (arith, c.requires.below c.loop-stage.stage-index))) in
+    count_room c.args.of.now c.loop-stage.stage-index _ c.loop-stage-test.true
+    (c.loop-stage.invariant.sum _ (omega (arith, c.requires.below c.loop-stage.stage-index))) in
     omega (arith, c.requires.fits)

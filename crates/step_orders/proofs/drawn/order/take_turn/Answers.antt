@@ -23,7 +23,7 @@ overflow_add-item g c =
     c.requires.kept c.drawn_number-drawn.ensures c.items.ensures (c.next_turn.ensures.turn tails)
     ∙ ap (λ z. to_turn c.args.join.now z) c.in-Join.is in
     let lt : c.args.join.now < o.items = join_planned o (c.accepted_lists_have_all_steps.ensures o) c.args.heads.now tails c.args.sent.now
-        (length c.args.found.now) c.args.number.now c.args.join.now c.requires.kept e in
+    (length c.args.found.now) c.args.number.now c.args.join.now c.requires.kept e in
     omega (arith, c.items.ensures, c.items.type_inv)
 
 pub next_join-requires : goal.next_join-requires
@@ -35,7 +35,7 @@ next_join-requires g c =
     c.requires.kept c.drawn_number-drawn.ensures c.items.ensures (c.next_turn.ensures.turn tails)
     ∙ ap (λ z. to_turn c.args.join.now z) c.in-Join.is in
     let lt : c.args.join.now < o.items = join_planned o (c.accepted_lists_have_all_steps.ensures o) c.args.heads.now tails c.args.sent.now
-        (length c.args.found.now) c.args.number.now c.args.join.now c.requires.kept e in
+    (length c.args.found.now) c.args.number.now c.args.join.now c.requires.kept e in
     omega arith
 
 pub take_step-requires-clause-rank : goal.take_step-requires-clause-rank
@@ -47,7 +47,7 @@ take_step-requires-clause-rank g c =
     c.requires.kept c.drawn_number-drawn.ensures c.items.ensures (c.next_turn.ensures.turn tails)
     ∙ ap (λ z. to_turn c.args.join.now z) c.in-Rank.is in
     let lt : c.in-Rank.rank < o.ranks = in_ranks o (c.accepted_lists_have_all_steps.ensures o) c.args.heads.now tails c.args.sent.now
-        (length c.args.found.now) c.args.number.now c.args.join.now c.requires.kept c.in-Rank.rank e in
+    (length c.args.found.now) c.args.number.now c.args.join.now c.requires.kept c.in-Rank.rank e in
     omega (arith, c.requires.kept.head_count)
 
 pub unreachable-requires : goal.unreachable-requires
@@ -59,7 +59,7 @@ unreachable-requires g c =
     c.requires.kept c.drawn_number-drawn.ensures c.items.ensures (c.next_turn.ensures.turn tails)
     ∙ ap (λ z. to_turn c.args.join.now z) c.in-Rank.is in
     has_head o (c.accepted_lists_have_all_steps.ensures o) c.args.heads.now tails c.args.sent.now (length c.args.found.now)
-        c.args.number.now c.args.join.now c.requires.kept c.in-Rank.rank e (sym c.take_step.ensures.step ∙ c.in_default.is)
+    c.args.number.now c.args.join.now c.requires.kept c.in-Rank.rank e (sym c.take_step.ensures.step ∙ c.in_default.is)
 
 pub mark_sent-requires : goal.mark_sent-requires
 mark_sent-requires g c =
@@ -71,7 +71,7 @@ mark_sent-requires g c =
     ∙ ap (λ z. to_turn c.args.join.now z) c.in-Rank.is in
     let h : get_or c.args.heads.now c.in-Rank.rank None ≡ Some c.in-Some.step = sym c.take_step.ensures.step ∙ c.in-Some.is in
     room o (c.accepted_lists_have_all_steps.ensures o) c.args.heads.now tails c.args.sent.now (length c.args.found.now) c.args.number.now
-        c.args.join.now c.requires.kept c.in-Rank.rank e c.in-Some.step h
+    c.args.join.now c.requires.kept c.in-Rank.rank e c.in-Some.step h
     c.requires.kept.table (omega (arith, c.items.ensures, c.items.type_inv))
 
 pub returns-in-Over-clause-first : goal.returns-in-Over-clause-first
@@ -94,7 +94,7 @@ returns-in-Join-clause-kept g c =
     c.requires.kept c.drawn_number-drawn.ensures c.items.ensures (c.next_turn.ensures.turn tails)
     ∙ ap (λ z. to_turn c.args.join.now z) c.in-Join.is in
     (join_onward o (c.accepted_lists_have_all_steps.ensures o) c.args.heads.now tails c.args.sent.now (length c.args.found.now)
-        c.args.number.now c.args.join.now c.requires.kept e (length c.next_turn.new.found) c.next_join.result
+    c.args.number.now c.args.join.now c.requires.kept e (length c.next_turn.new.found) c.next_join.result
     c.next_turn.ensures.room c.next_join.ensures).0
 
 pub returns-in-Join-clause-first : goal.returns-in-Join-clause-first
@@ -106,7 +106,7 @@ returns-in-Join-clause-first g c =
     c.requires.kept c.drawn_number-drawn.ensures c.items.ensures (c.next_turn.ensures.turn tails)
     ∙ ap (λ z. to_turn c.args.join.now z) c.in-Join.is in
     (join_onward o (c.accepted_lists_have_all_steps.ensures o) c.args.heads.now tails c.args.sent.now (length c.args.found.now)
-        c.args.number.now c.args.join.now c.requires.kept e (length c.next_turn.new.found) c.next_join.result
+    c.args.number.now c.args.join.now c.requires.kept e (length c.next_turn.new.found) c.next_join.result
     c.next_turn.ensures.room c.next_join.ensures).1
 
 pub returns-in-Some-clause-kept : goal.returns-in-Some-clause-kept
@@ -119,7 +119,7 @@ returns-in-Some-clause-kept g c =
     ∙ ap (λ z. to_turn c.args.join.now z) c.in-Rank.is in
     let h : get_or c.args.heads.now c.in-Rank.rank None ≡ Some c.in-Some.step = sym c.take_step.ensures.step ∙ c.in-Some.is in
     step_kept o (c.accepted_lists_have_all_steps.ensures o) c.args.heads.now tails c.args.sent.now (length c.args.found.now)
-        c.args.number.now c.args.join.now c.requires.kept c.in-Rank.rank e c.in-Some.step h
+    c.args.number.now c.args.join.now c.requires.kept c.in-Rank.rank e c.in-Some.step h
     c.take_step.new.heads (map g.T.Steps.left c.take_step.new.streams) c.mark_sent.new.sent (length c.next_turn.new.found) c.drawn_number-drawn.result
     c.take_step.ensures.heads
     (omega (arith, length-map c.take_step.new.streams g.T.Steps.left, length-map c.args.streams.now g.T.Steps.left, c.take_step.ensures.streams))
@@ -135,7 +135,7 @@ returns-in-Some-clause-first g c =
     ∙ ap (λ z. to_turn c.args.join.now z) c.in-Rank.is in
     let h : get_or c.args.heads.now c.in-Rank.rank None ≡ Some c.in-Some.step = sym c.take_step.ensures.step ∙ c.in-Some.is in
     step_left o (c.accepted_lists_have_all_steps.ensures o) c.args.heads.now tails c.args.sent.now (length c.args.found.now)
-        c.args.number.now c.args.join.now c.requires.kept c.in-Rank.rank e c.in-Some.step h
+    c.args.number.now c.args.join.now c.requires.kept c.in-Rank.rank e c.in-Some.step h
     c.take_step.new.heads (map g.T.Steps.left c.take_step.new.streams) c.mark_sent.new.sent (length c.next_turn.new.found) c.drawn_number-drawn.result
     c.take_step.ensures.heads
     (omega (arith, length-map c.take_step.new.streams g.T.Steps.left, length-map c.args.streams.now g.T.Steps.left, c.take_step.ensures.streams))

@@ -9,7 +9,7 @@ returns-then-not-is_free-clause-some g c =
     let n : ℕ = g.S.Shape.group c.loop-self.self.shape.now in
     c.loop-self.invariant.left
     ∙ join_head o n c.loop-self.self.item c.loop-self.self.here c.first_place-self.result
-        (omega (arith, c.items.ensures, c.loop-self-test.true)) (sym (c.if-not-is_free.ensures)) c.first_place-self.ensures
+    (omega (arith, c.items.ensures, c.loop-self-test.true)) (sym (c.if-not-is_free.ensures)) c.first_place-self.ensures
 
 pub loop-self-preserved : goal.loop-self-preserved
 loop-self-preserved g c =

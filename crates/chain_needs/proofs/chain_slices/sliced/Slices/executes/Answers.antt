@@ -14,5 +14,5 @@ pub returns : goal.returns
 unfolding needs executes
 returns c = λ b o h q.
     let is : IsLevel b o (site_of b c.args.item) (loops_from b (suc c.args.item)) c.item_level.result.now =
-        level_of b o c.args.item c.item_level.result.now q.item (c.item_level.ensures b o h q.item) in
+    level_of b o c.args.item c.item_level.result.now q.item (c.item_level.ensures b o h q.item) in
     c.contains.ensures ∙ (c.ranks_of.ensures c.args.rank ∙ (ap (λ (z : List RankSet). has_at z c.args.element c.args.rank) c.deref.ensures.value ∙ is.executing c.args.element c.args.rank q.element))

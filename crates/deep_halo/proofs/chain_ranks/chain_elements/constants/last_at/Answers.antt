@@ -16,8 +16,12 @@ is c =
 
 within : (c : goal.After-row_known-2-1) → c.args.blocks.now.owners.now.ranks * c.args.blocks.now.layout.now.cells + c.args.blocks.now.layout.now.dats_end + c.index.result.now
     + var_width (program_in c.args.blocks.now) c.args.var ≤ all_cells (program_in c.args.blocks.now) (ranks_in c.args.blocks.now)
-within c = omega (arith, is c, variable_in_blocks (program_in c.args.blocks.now) (ranks_in c.args.blocks.now) (ranks_in c.args.blocks.now)
-    c.args.var (let q : ranks_in c.args.blocks.now ≤ ranks_in c.args.blocks.now = omega arith in q) c.requires.var)
+within c = omega (
+  arith,
+  is c,
+  variable_in_blocks (program_in c.args.blocks.now) (ranks_in c.args.blocks.now) (ranks_in c.args.blocks.now)
+      c.args.var (let q : ranks_in c.args.blocks.now ≤ ranks_in c.args.blocks.now = omega arith in q) c.requires.var,
+)
 
 pub overflow_add-result : goal.overflow_add-result
 overflow_add-result c =
@@ -27,8 +31,15 @@ overflow_add-result c =
     let all : c.args.blocks.now.owners.now.ranks * l.cells ≡ c.args.blocks.now.owners.now.ranks * memory_length b = ap (λ k. c.args.blocks.now.owners.now.ranks * k) c.requires.sound.layout.cells in
     let last : l.dats_end ≡ var_start b 0 = c.requires.sound.layout.dats.ends in
     let less : var_start b 0 ≤ var_start b c.args.var = (c.memory_holds.ensures.order b).behind c.args.var in
-    omega (arith, all, last, less, variable_in_blocks b (ranks_in c.args.blocks.now) (ranks_in c.args.blocks.now) c.args.var
-        (let q : ranks_in c.args.blocks.now ≤ ranks_in c.args.blocks.now = omega arith in q) c.requires.var, c.requires.sound.room)
+    omega (
+      arith,
+      all,
+      last,
+      less,
+      variable_in_blocks b (ranks_in c.args.blocks.now) (ranks_in c.args.blocks.now) c.args.var
+          (let q : ranks_in c.args.blocks.now ≤ ranks_in c.args.blocks.now = omega arith in q) c.requires.var,
+      c.requires.sound.room,
+    )
 
 pub overflow_add-result-2 : goal.overflow_add-result-2
 overflow_add-result-2 c = omega (arith, within c, c.requires.sound.room)

@@ -12,9 +12,13 @@ loop-var-preserved c f holds = c.read_variable.ensures f holds (c.loop-var.invar
 pub returns : goal.returns
 returns c f holds =
     let b = program_in c.args.blocks.now in
-    let n : length b.vars ≤ c.loop-var.var = omega
-        (arith, length-map c.args.blocks.now.bound.now.vars.items var_of, c.loop-var-test.false, c.len-var-end.ensures,
-        c.args.blocks.now.bound.now.vars.ok) in
+    let n : length b.vars ≤ c.loop-var.var = omega (
+      arith,
+      length-map c.args.blocks.now.bound.now.vars.items var_of,
+      c.loop-var-test.false,
+      c.len-var-end.ensures,
+      c.args.blocks.now.bound.now.vars.ok,
+    ) in
     read_all b c.requires.sound.fits.constants (λ v. f (ranks_in c.args.blocks.now) (Variable v))
-        (c.constants_are_read.ensures.numbered b c.requires.sound.fits.constants) c.loop-var.var c.loop-var.values n
+    (c.constants_are_read.ensures.numbered b c.requires.sound.fits.constants) c.loop-var.var c.loop-var.values n
     (c.loop-var.auto.values ∙ c.requires.values) (c.loop-var.invariant f holds)

@@ -15,7 +15,7 @@ returns-in-Some c f holds are =
     let some : (var_at b c.args.var).constant ≡ Some c.in-Some.first = ap (λ (v : VarValue). v.constant) is ∙ c.in-Some.is in
     let wide : length c.as_slice-count.result.now ≡ var_width b c.args.var = ap length c.as_slice-count.ensures ∙ ap (λ (v : VarValue). length v.start) (sym is) in
     read_more b c.requires.sound.fits.constants (λ v. f (ranks_in c.args.blocks.now) (Variable v)) c.args.var c.in-Some.first
-        (length c.as_slice-count.result.now) c.args.values.now c.copy_from.new.target
+    (length c.as_slice-count.result.now) c.args.values.now c.copy_from.new.target
     c.requires.var some wide
     (last_cells b (ranks_in c.args.blocks.now) c.args.var c.last_at.result (length c.as_slice-count.result.now) c.args.memory.now c.copy_from.new.target f c.in-Some.first c.requires.var holds
     c.last_at.ensures.is wide c.copy_from.ensures.copied)

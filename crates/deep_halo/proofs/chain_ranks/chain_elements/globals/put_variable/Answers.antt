@@ -16,7 +16,7 @@ returns-in-Some c f holds =
     subst (λ (r : Option Reduction). Hold c.args.blocks.now c.fill_variable.new.memory
     (with_target c.args.rank (Whole c.args.var) (λ i. window_of r (f (ranks_in c.args.blocks.now) (cell_in (Whole c.args.var) i))) f)) (sym how)
     (subst (λ (z : ℤ). Hold c.args.blocks.now c.fill_variable.new.memory (with_target c.args.rank (Whole c.args.var) (λ i. z) f))
-        (ap (λ z. to_z w32 (of_z w32 z)) c.unit.ensures ∙ same_unit (operation c.in-Some.how)) (c.fill_variable.ensures f holds))
+    (ap (λ z. to_z w32 (of_z w32 z)) c.unit.ensures ∙ same_unit (operation c.in-Some.how)) (c.fill_variable.ensures f holds))
 
 pub returns-in-None : goal.returns-in-None
 returns-in-None c f holds =

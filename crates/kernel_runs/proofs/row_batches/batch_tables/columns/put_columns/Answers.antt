@@ -37,8 +37,11 @@ loop-a-preserved c =
         | else-first-a w' ↦
             (
             let ps : c.match-locals-a.places ≡ set c.loop-a.places n
-                (record { from = (get_or c.loop-a.places w.first_column-first.result (record { from = 0; count = 0 })).from; count =
-                w.in-Some.local.dim }) =
+            (record {
+              from = (get_or c.loop-a.places w.first_column-first.result (record { from = 0; count = 0 })).from;
+              count =
+                  w.in-Some.local.dim;
+            }) =
             w.places-is ∙ ap (λ f. set c.loop-a.places n (record { from = f; count = w.in-Some.local.dim })) w'.from-is in
             subst (λ k. put c.match-locals-a.columns c.match-locals-a.places k) (sym (w.count-is ∙ w'.count-is))
             (subst (λ cs. put cs c.match-locals-a.places c.loop-a.count) (sym (w.columns-is ∙ w'.columns-is))

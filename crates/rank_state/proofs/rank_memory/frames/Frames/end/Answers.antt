@@ -26,7 +26,7 @@ slot_at-requires-clause-element c =
     let inside = c.self.inside in
     subst (λ (ws : Rows). c.args.element < length (get_or (lists ws) c.args.rank [])) (sym c.deref.ensures.value)
     (stands inside.stride (lists inside.table.items) inside.slots.items inside.staging.items c.args.self.now c.args.rank c.args.element
-        (ap (λ (p : Panes). p.panes) c.self.view_is) c.requires.rank c.requires.element).element
+    (ap (λ (p : Panes). p.panes) c.self.view_is) c.requires.rank c.requires.element).element
 
 slot_is : (g : goal.After-push_reserved) → Slot
 slot_is c = record { item = c.index_mut.result.now.item; rank = c.index_mut.result.now.rank; element = c.index_mut.result.now.element; held = Nothing }
@@ -51,13 +51,13 @@ unfolding slot_is
 invariant_of-self c =
     let inside = c.self.inside in
     let tied : Tied inside.stride (with_entry c.args.rank c.args.element None (entries (lists inside.table.items)))
-        (set inside.slots.items c.in-Some.slot (slot_is c)) inside.staging.items (inside.free.items ++ c.in-Some.slot ∷ []) =
+    (set inside.slots.items c.in-Some.slot (slot_is c)) inside.staging.items (inside.free.items ++ c.in-Some.slot ∷ []) =
     tied_shut inside.stride (entries (lists inside.table.items)) inside.slots.items inside.staging.items inside.free.items c.args.rank
-        c.args.element c.in-Some.slot (slot_is c) c.self.invariant.0 (stands_here c).in_entries (stands_here c).in_row (entry_is c) refl in
+    c.args.element c.in-Some.slot (slot_is c) c.self.invariant.0 (stands_here c).in_entries (stands_here c).in_row (entry_is c) refl in
     let same : length (set inside.slots.items c.in-Some.slot (slot_is c)) ≡ length inside.slots.items = length-set inside.slots.items c.in-Some.slot (slot_is c) in (
       subst (λ (t : Table). Tied inside.stride t (set inside.slots.items c.in-Some.slot (slot_is c)) inside.staging.items c.push_reserved.new.self.items) (sym (table_is c))
           (subst (λ (f : List ℕ). Tied inside.stride (with_entry c.args.rank c.args.element None (entries (lists inside.table.items)))
-              (set inside.slots.items c.in-Some.slot (slot_is c)) inside.staging.items f) (sym c.push_reserved.ensures.items) tied),
+          (set inside.slots.items c.in-Some.slot (slot_is c)) inside.staging.items f) (sym c.push_reserved.ensures.items) tied),
       omega (arith, c.push_reserved.ensures.capacity, c.self.invariant.1),
       omega (arith, same, c.self.invariant.2),
     )
@@ -70,15 +70,15 @@ panes_is c =
     let inside = c.self.inside in
     ap (λ t. panes_in inside.stride t (set inside.slots.items c.in-Some.slot (slot_is c)) inside.staging.items) (table_is c)
     ∙ shut_panes inside.stride (entries (lists inside.table.items)) inside.slots.items inside.staging.items inside.free.items c.args.rank
-        c.args.element c.in-Some.slot (slot_is c) c.self.invariant.0 (stands_here c).in_entries (stands_here c).in_row (entry_is c)
+    c.args.element c.in-Some.slot (slot_is c) c.self.invariant.0 (stands_here c).in_entries (stands_here c).in_row (entry_is c)
 
 pub returns-clause-shut : goal.returns-clause-shut
 unfolding slot_is
 returns-clause-shut c =
     let inside = c.self.inside in
     subst (λ (p : Panes). of_parts (panes_in inside.stride (entries (lists (with_items inside.table c.take_slot.new.table).items))
-        (set inside.slots.items c.in-Some.slot (slot_is c)) inside.staging.items) (vec_len c.push_reserved.new.self) inside.stride ≡ shut
-        c.args.rank c.args.element p) c.self.view_is
+    (set inside.slots.items c.in-Some.slot (slot_is c)) inside.staging.items) (vec_len c.push_reserved.new.self) inside.stride ≡ shut
+    c.args.rank c.args.element p) c.self.view_is
     (ap₂ (λ ps l. of_parts ps l inside.stride) (panes_is c) c.push_reserved.ensures.len)
 
 pub returns-clause-memory : goal.returns-clause-memory
@@ -93,6 +93,6 @@ returns-clause-memory c =
     ∙ ap (λ s. closed c.args.ending.now.spans.now (held_pane c.index.result.now.held 0 (cells_at (c.in-Some.slot * inside.stride) inside.stride s)) c.args.memory.now) c.deref-2.ensures.value
     ∙ ap (λ (w : Slot). closed c.args.ending.now.spans.now (held_pane w.held 0 (cells_at (c.in-Some.slot * inside.stride) inside.stride inside.staging.items)) c.args.memory.now) slot
     ∙ any_item c.args.ending.now.spans.now (get_or inside.slots.items c.in-Some.slot no_slot).held 0
-        (get_or inside.slots.items c.in-Some.slot no_slot).item
-        (cells_at (c.in-Some.slot * inside.stride) inside.stride inside.staging.items) c.args.memory.now
+    (get_or inside.slots.items c.in-Some.slot no_slot).item
+    (cells_at (c.in-Some.slot * inside.stride) inside.stride inside.staging.items) c.args.memory.now
     ∙ ap (λ p. closed c.args.ending.now.spans.now p c.args.memory.now) (sym pane)

@@ -28,5 +28,5 @@ pub returns : goal.returns
 returns c =
     let same : c.in-Ok.count ≡ c.args.peak = grind (arith, common_steps) in
     ap₂ (λ t l. of_parts (panes_in c.args.stride t c.in_ok-slots.slots.items c.in_ok-staging.staging.items) l c.args.stride)
-        (ap entries c.in_ok-table.ensures ∙ zeros_say c.args.shape.now) (c.in_ok-free.ensures.len ∙ same)
+    (ap entries c.in_ok-table.ensures ∙ zeros_say c.args.shape.now) (c.in_ok-free.ensures.len ∙ same)
     ∙ ap (λ ps. of_parts ps c.args.peak c.args.stride) (all_shut c.args.stride c.in_ok-slots.slots.items c.in_ok-staging.staging.items c.args.shape.now)

@@ -19,13 +19,13 @@ put_slot-requires-clause-element c =
     let inside = c.self.inside in
     subst (λ (ws : Rows). c.args.element < length (get_or (lists ws) c.args.rank [])) (sym c.deref_mut.ensures.value)
     (stands inside.stride (lists inside.table.items) inside.slots.items inside.staging.items c.args.self.now c.args.rank c.args.element
-        (ap (λ (p : Panes). p.panes) c.self.view_is) c.requires.rank c.requires.element).element
+    (ap (λ (p : Panes). p.panes) c.self.view_is) c.requires.rank c.requires.element).element
 
 pub put_slot-requires-clause-small : goal.put_slot-requires-clause-small
 put_slot-requires-clause-small c =
     let inside = c.self.inside in
     let last = last_free inside.stride (entries (lists inside.table.items)) inside.slots.items inside.staging.items inside.free.items
-        c.pop.new.self.items c.in-Some.slot c.self.invariant.0 c.in-Some.ensures.items in
+    c.pop.new.self.items c.in-Some.slot c.self.invariant.0 c.in-Some.ensures.items in
     omega (arith, last.0, c.self.invariant.2)
 
 stands_here : (c : goal.After-self-2-1) → Stands c.self.inside.stride (lists c.self.inside.table.items) c.self.inside.slots.items c.self.inside.staging.items c.args.self.now c.args.rank c.args.element
@@ -54,9 +54,9 @@ invariant_of-self c =
     let inside = c.self.inside in
     let here = stands_here c in
     let tied : Tied inside.stride (with_entry c.args.rank c.args.element (Some c.in-Some.slot) (entries (lists inside.table.items)))
-        (set inside.slots.items c.in-Some.slot (slot_is c)) inside.staging.items c.pop.new.self.items =
+    (set inside.slots.items c.in-Some.slot (slot_is c)) inside.staging.items c.pop.new.self.items =
     tied_opened inside.stride (entries (lists inside.table.items)) inside.slots.items inside.staging.items inside.staging.items
-        inside.free.items c.pop.new.self.items c.args.rank c.args.element c.in-Some.slot (slot_is c)
+    inside.free.items c.pop.new.self.items c.args.rank c.args.element c.in-Some.slot (slot_is c)
     c.self.invariant.0 here.in_entries here.in_row (free_is c) refl refl (broken c.args.fault) tt refl in
     let same : length (set inside.slots.items c.in-Some.slot (slot_is c)) ≡ length inside.slots.items = length-set inside.slots.items c.in-Some.slot (slot_is c) in (
       subst (λ (t : Table). Tied inside.stride t (set inside.slots.items c.in-Some.slot (slot_is c)) inside.staging.items c.pop.new.self.items) (sym (table_is c)) tied,
@@ -67,15 +67,15 @@ invariant_of-self c =
 panes_is : (c : goal.After-self-2-1) →
     panes_in c.self.inside.stride (entries (lists (with_items c.self.inside.table c.put_slot.new.table).items)) (set c.self.inside.slots.items c.in-Some.slot (slot_is c)) c.self.inside.staging.items
     ≡ with_pane c.args.rank c.args.element (pane_after c.args.item (Faults c.args.fault))
-        (panes_in c.self.inside.stride (entries (lists c.self.inside.table.items)) c.self.inside.slots.items c.self.inside.staging.items)
+    (panes_in c.self.inside.stride (entries (lists c.self.inside.table.items)) c.self.inside.slots.items c.self.inside.staging.items)
 unfolding slot_is
 panes_is c =
     let inside = c.self.inside in
     let last = last_free inside.stride (entries (lists inside.table.items)) inside.slots.items inside.staging.items inside.free.items
-        c.pop.new.self.items c.in-Some.slot c.self.invariant.0 (free_is c) in
+    c.pop.new.self.items c.in-Some.slot c.self.invariant.0 (free_is c) in
     ap (λ t. panes_in inside.stride t (set inside.slots.items c.in-Some.slot (slot_is c)) inside.staging.items) (table_is c)
     ∙ opened_panes inside.stride (entries (lists inside.table.items)) inside.slots.items inside.staging.items inside.staging.items
-        inside.free.items c.args.rank c.args.element c.in-Some.slot (slot_is c)
+    inside.free.items c.args.rank c.args.element c.in-Some.slot (slot_is c)
     c.self.invariant.0 (stands_here c).in_entries last.0 last.1 (λ b n h. refl)
 
 pub returns : goal.returns
@@ -84,6 +84,6 @@ returns c =
     let inside = c.self.inside in
     let n : vec_len c.pop.new.self ≡ vec_len inside.free - 1 = omega (arith, c.in-Some.ensures.len) in
     subst (λ (p : Panes). of_parts (panes_in inside.stride (entries (lists (with_items inside.table c.put_slot.new.table).items))
-        (set inside.slots.items c.in-Some.slot (slot_is c)) inside.staging.items) (vec_len c.pop.new.self) inside.stride ≡ opened
-        c.args.item c.args.rank c.args.element (Faults c.args.fault) (p.left - 1) p) c.self.view_is
+    (set inside.slots.items c.in-Some.slot (slot_is c)) inside.staging.items) (vec_len c.pop.new.self) inside.stride ≡ opened
+    c.args.item c.args.rank c.args.element (Faults c.args.fault) (p.left - 1) p) c.self.view_is
     (ap₂ (λ ps l. of_parts ps l inside.stride) (panes_is c) n)

@@ -91,32 +91,32 @@ queues_are c = refilled c.self.inside.queues c.pass_read.new.queues (c.pass_read
 
 queued : (c : After-read-count) → index_of c.args.from c.args.to c.self.inside.letters.items < length c.self.inside.letters.items
     → Queued (with_items c.self.inside.queues c.pass_read.new.queues).items c.self.inside.next.items
-        (with_items c.self.inside.letters c.read-count.new.letters).items
-        (length (with_items c.self.inside.letters c.read-count.new.letters).items)
+    (with_items c.self.inside.letters c.read-count.new.letters).items
+    (length (with_items c.self.inside.letters c.read-count.new.letters).items)
 queued c h =
     let i = index_of c.args.from c.args.to c.self.inside.letters.items in
     let ls = c.self.inside.letters.items in
     let passed : Queued c.pass_read.new.queues c.self.inside.next.items c.self.inside.letters.items (length c.self.inside.letters.items) =
     same_queues c.pass_read.new.queues c.pass_read.new.queues c.deref.result.now c.self.inside.next.items c.deref-2.result.now
-        c.self.inside.letters.items (length c.deref-2.result.now) (length c.self.inside.letters.items)
+    c.self.inside.letters.items (length c.deref-2.result.now) (length c.self.inside.letters.items)
     refl c.deref.ensures.value c.deref-2.ensures.value (ap length c.deref-2.ensures.value) c.pass_read.ensures in
     let marked : List Letter = set c.self.inside.letters.items (index_of c.args.from c.args.to c.self.inside.letters.items) (read_of (found c.args.from c.args.to c.self.inside.letters.items)) in
     let read : Queued c.pass_read.new.queues c.self.inside.next.items
-        (set c.self.inside.letters.items (index_of c.args.from c.args.to c.self.inside.letters.items)
-        (read_of (found c.args.from c.args.to c.self.inside.letters.items))) (length c.self.inside.letters.items) =
+    (set c.self.inside.letters.items (index_of c.args.from c.args.to c.self.inside.letters.items)
+    (read_of (found c.args.from c.args.to c.self.inside.letters.items))) (length c.self.inside.letters.items) =
     alike c.pass_read.new.queues c.self.inside.letters.items
-        (set c.self.inside.letters.items (index_of c.args.from c.args.to c.self.inside.letters.items)
-        (read_of (found c.args.from c.args.to c.self.inside.letters.items))) c.self.inside.next.items c.self.inside.next.items
-        (length c.self.inside.letters.items)
+    (set c.self.inside.letters.items (index_of c.args.from c.args.to c.self.inside.letters.items)
+    (read_of (found c.args.from c.args.to c.self.inside.letters.items))) c.self.inside.next.items c.self.inside.next.items
+    (length c.self.inside.letters.items)
     (read_alike (length c.pass_read.new.queues) (index_of c.args.from c.args.to c.self.inside.letters.items)
-        (length c.self.inside.letters.items) c.self.inside.letters.items c.self.inside.next.items h) passed in
+    (length c.self.inside.letters.items) c.self.inside.letters.items c.self.inside.next.items h) passed in
     let long : length c.self.inside.letters.items ≡ length (with_items c.self.inside.letters c.read-count.new.letters).items =
     sym (ap length (letters_are c) ∙ length-set c.self.inside.letters.items (index_of c.args.from c.args.to c.self.inside.letters.items)
-        (read_of (found c.args.from c.args.to c.self.inside.letters.items))) in
+    (read_of (found c.args.from c.args.to c.self.inside.letters.items))) in
     same_queues c.pass_read.new.queues (with_items c.self.inside.queues c.pass_read.new.queues).items c.self.inside.next.items c.self.inside.next.items
     (set c.self.inside.letters.items (index_of c.args.from c.args.to c.self.inside.letters.items)
-        (read_of (found c.args.from c.args.to c.self.inside.letters.items)))
-        (with_items c.self.inside.letters c.read-count.new.letters).items
+    (read_of (found c.args.from c.args.to c.self.inside.letters.items)))
+    (with_items c.self.inside.letters c.read-count.new.letters).items
     (length c.self.inside.letters.items) (length (with_items c.self.inside.letters c.read-count.new.letters).items) (sym (queues_are c)) refl (sym (letters_are c)) long read
 
 pub invariant_of-self : goal.invariant_of-self
@@ -124,10 +124,10 @@ invariant_of-self c =
     let d = (goal.at.invariant_of-self c).After-read-count in
     let inv = c.self.invariant in
     let same : length (with_items c.self.inside.queues c.pass_read.new.queues).items ≡ length c.self.inside.queues.items =
-        ap length (queues_are d) ∙ c.pass_read.auto.queues ∙ ap length c.deref_mut.ensures.value in
+    ap length (queues_are d) ∙ c.pass_read.auto.queues ∙ ap length c.deref_mut.ensures.value in
     let some_queue : 0 < length (with_items c.self.inside.queues c.pass_read.new.queues).items = omega (arith, inv.7) in
     let less : unread_cells (with_items c.self.inside.letters c.read-count.new.letters).items + c.read-count.result ≡ c.self.inside.unread =
-        ap (λ ls. unread_cells ls + c.read-count.result) (letters_are d) ∙ fewer d (has (goal.at.invariant_of-self c).After-deref-5) in (
+    ap (λ ls. unread_cells ls + c.read-count.result) (letters_are d) ∙ fewer d (has (goal.at.invariant_of-self c).After-deref-5) in (
       subst (InOrder 0 c.self.inside.filled) (sym (letters_are d)) (order_read 0 c.self.inside.filled (index_of c.args.from c.args.to c.self.inside.letters.items) c.self.inside.letters.items inv.0),
       inv.1,
       omega arith,
@@ -144,13 +144,13 @@ pub returns-clause-mail : goal.returns-clause-mail
 returns-clause-mail c =
     let d = (goal.at.returns-clause-mail c).After-read-count in
     let posts : posts_in (with_items c.self.inside.letters c.read-count.new.letters).items c.self.inside.cells.items ≡ without_first
-        c.args.from c.args.to (posts_in c.self.inside.letters.items c.self.inside.cells.items) =
+    c.args.from c.args.to (posts_in c.self.inside.letters.items c.self.inside.cells.items) =
     ap (λ ls. posts_in ls c.self.inside.cells.items) (letters_are d)
-        ∙ rest_read c.args.from c.args.to c.self.inside.letters.items c.self.inside.cells.items
-        (has (goal.at.returns-clause-mail c).After-deref-5) in
+    ∙ rest_read c.args.from c.args.to c.self.inside.letters.items c.self.inside.cells.items
+    (has (goal.at.returns-clause-mail c).After-deref-5) in
     let left : c.self.inside.left + c.read-count.result ≡ c.self.inside.left + total c.args.spans.now = omega (arith, count_is d, whole (goal.at.returns-clause-mail c).After-deref-5) in
     subst (λ (b : Box). of_parts (posts_in (with_items c.self.inside.letters c.read-count.new.letters).items c.self.inside.cells.items)
-        (c.self.inside.left + c.read-count.result) ≡ received c.args.from c.args.to (total c.args.spans.now) b) c.self.view_is
+    (c.self.inside.left + c.read-count.result) ≡ received c.args.from c.args.to (total c.args.spans.now) b) c.self.view_is
     (ap₂ of_parts posts left)
 
 pub returns-clause-memory : goal.returns-clause-memory
@@ -159,6 +159,6 @@ returns-clause-memory c =
     c.read-count.ensures.memory
     ∙ ap₂ (λ (l : Letter) cs. scattered 0 (cells_at l.at l.count cs) c.args.spans.now c.args.memory.now) (letter_is d) c.deref-6.ensures.value
     ∙ ap (λ o. arrived c.args.spans.now o c.args.memory.now)
-        (sym (first_found c.args.from c.args.to c.self.inside.letters.items c.self.inside.cells.items
-        (has (goal.at.returns-clause-memory c).After-deref-5)))
+    (sym (first_found c.args.from c.args.to c.self.inside.letters.items c.self.inside.cells.items
+    (has (goal.at.returns-clause-memory c).After-deref-5)))
     ∙ ap (λ (b : Box). arrived c.args.spans.now (first_post c.args.from c.args.to b.posts) c.args.memory.now) c.self.view_is

@@ -40,16 +40,33 @@ pub append-requires-clause-room : goal.append-requires-clause-room
 append-requires-clause-room c =
     let inv = c.self.invariant in
     let d = (goal.at.append-requires-clause-room c).After-put_at-count in
-    omega (arith, c.make_room-at.new.letters.ok.0, order_length 0 c.make_room-at.result c.make_room-at.new.letters.items
-        c.make_room-at.ensures.order, inv.4, fits d, c.make_room-at.ensures.capacity, c.put_at-count.ensures.count, c.requires.some)
+    omega (
+      arith,
+      c.make_room-at.new.letters.ok.0,
+      order_length 0 c.make_room-at.result c.make_room-at.new.letters.items
+          c.make_room-at.ensures.order,
+      inv.4,
+      fits d,
+      c.make_room-at.ensures.capacity,
+      c.put_at-count.ensures.count,
+      c.requires.some,
+    )
 
 pub append-requires-clause-next_room : goal.append-requires-clause-next_room
 append-requires-clause-next_room c =
     let inv = c.self.invariant in
     let d = (goal.at.append-requires-clause-next_room c).After-put_at-count in
-    omega (arith, c.make_room-at.new.next.ok.0, c.make_room-at.ensures.next,
-        order_length 0 c.make_room-at.result c.make_room-at.new.letters.items c.make_room-at.ensures.order, inv.5, fits d,
-        c.make_room-at.ensures.next_capacity, c.put_at-count.ensures.count, c.requires.some)
+    omega (
+      arith,
+      c.make_room-at.new.next.ok.0,
+      c.make_room-at.ensures.next,
+      order_length 0 c.make_room-at.result c.make_room-at.new.letters.items c.make_room-at.ensures.order,
+      inv.5,
+      fits d,
+      c.make_room-at.ensures.next_capacity,
+      c.put_at-count.ensures.count,
+      c.requires.some,
+    )
 
 queues_twice : (c : After-append) → (with_items (with_items c.self.inside.queues c.make_room-at.new.queues) c.append.new.queues).items ≡ c.append.new.queues
 queues_twice c = refilled (with_items c.self.inside.queues c.make_room-at.new.queues) c.append.new.queues (c.append.auto.queues ∙ ap length c.deref_mut-4.ensures.value)
@@ -68,13 +85,13 @@ invariant_of-self c =
     let all : length (with_items (with_items c.self.inside.cells c.make_room-at.new.cells) c.put_at-count.new.cells).items ≡ length c.self.inside.cells.items = ap length (twice d) ∙ long d in
     let e = (goal.at.invariant_of-self c).After-append in
     let same : length (with_items (with_items c.self.inside.queues c.make_room-at.new.queues) c.append.new.queues).items ≡ length
-        c.self.inside.queues.items = ap length (queues_twice e) ∙ queues_long e in
+    c.self.inside.queues.items = ap length (queues_twice e) ∙ queues_long e in
     let some_queue : 0 < length (with_items (with_items c.self.inside.queues c.make_room-at.new.queues) c.append.new.queues).items = omega (arith, inv.7) in
     let some : 0 < c.put_at-count.result = omega (arith, c.put_at-count.ensures.count, c.requires.some) in
     let end : InOrder c.make_room-at.result (c.make_room-at.result + c.put_at-count.result) (letter_is (goal.at.invariant_of-self c).After-append ∷ []) = (omega arith, some, omega arith) in
     let order : InOrder 0 (c.make_room-at.result + c.put_at-count.result) (c.make_room-at.new.letters.items ++ letter_is (goal.at.invariant_of-self c).After-append ∷ []) =
     order_append 0 c.make_room-at.result (c.make_room-at.result + c.put_at-count.result) c.make_room-at.new.letters.items
-        (letter_is (goal.at.invariant_of-self c).After-append ∷ []) c.make_room-at.ensures.order end in
+    (letter_is (goal.at.invariant_of-self c).After-append ∷ []) c.make_room-at.ensures.order end in
     let sum : unread_cells c.append.new.letters.items ≡ unread_cells c.make_room-at.new.letters.items + (c.put_at-count.result + 0) =
     ap unread_cells c.append.ensures.letters ∙ unread_append c.make_room-at.new.letters.items (letter_is (goal.at.invariant_of-self c).After-append ∷ []) in (
       subst (InOrder 0 (c.make_room-at.result + c.put_at-count.result)) (sym c.append.ensures.letters) order,
@@ -95,7 +112,7 @@ unfolding letter_is
 returns c =
     let d = (goal.at.returns c).After-put_at-count in
     let before : take c.make_room-at.result c.put_at-count.new.cells ≡ take c.make_room-at.result c.make_room-at.new.cells =
-        c.put_at-count.ensures.before ∙ ap (take c.make_room-at.result) (given d) in
+    c.put_at-count.ensures.before ∙ ap (take c.make_room-at.result) (given d) in
     let values : take c.put_at-count.result (drop c.make_room-at.result c.put_at-count.new.cells) ≡ gathered c.args.memory.now c.args.spans.now =
     ap (λ n. take n (drop c.make_room-at.result c.put_at-count.new.cells)) c.put_at-count.ensures.count ∙ c.put_at-count.ensures.here in
     let posts : posts_in c.append.new.letters.items (with_items (with_items c.self.inside.cells c.make_room-at.new.cells) c.put_at-count.new.cells).items
@@ -108,7 +125,7 @@ returns c =
     let left : c.self.inside.left - c.put_at-count.result ≡ c.self.inside.left - length (gathered c.args.memory.now c.args.spans.now) =
     omega (arith, gathered_length c.args.memory.now c.args.spans.now c.requires.inside, c.put_at-count.ensures.count) in
     subst (λ (b : Box). of_parts (posts_in c.append.new.letters.items
-        (with_items (with_items c.self.inside.cells c.make_room-at.new.cells) c.put_at-count.new.cells).items)
-        (c.self.inside.left - c.put_at-count.result)
+    (with_items (with_items c.self.inside.cells c.make_room-at.new.cells) c.put_at-count.new.cells).items)
+    (c.self.inside.left - c.put_at-count.result)
     ≡ sent c.args.item c.args.from c.args.to (gathered c.args.memory.now c.args.spans.now) b) c.self.view_is
     (ap₂ of_parts posts left)

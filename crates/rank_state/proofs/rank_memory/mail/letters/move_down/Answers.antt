@@ -21,8 +21,8 @@ returns-clause-after c = behind c.args.from c.args.to c.args.letters.now (placed
 pub returns-clause-rest : goal.returns-clause-rest
 returns-clause-rest c =
     subst (InOrder (c.args.end + (get_or c.args.letters.now c.args.from no_letter).count) (length c.copy_down.new.cells))
-        (sym (behind c.args.from c.args.to c.args.letters.now (placed c.args.end (get_or c.args.letters.now c.args.from no_letter))
-        c.requires.to))
+    (sym (behind c.args.from c.args.to c.args.letters.now (placed c.args.end (get_or c.args.letters.now c.args.from no_letter))
+    c.requires.to))
     (order_rest c.args.from c.args.end (length c.args.cells.now) (length c.copy_down.new.cells) c.args.letters.now c.requires.from (sym c.copy_down.auto.cells) c.requires.rest)
 
 pub returns-clause-unread : goal.returns-clause-unread

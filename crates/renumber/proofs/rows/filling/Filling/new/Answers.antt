@@ -31,6 +31,6 @@ pub returns : goal.returns
 returns c =
     let inv = c.loop-length.invariant in
     begun c.args.lengths.now c.loop-length.starts.items c.push-2.new.self.items c.in_ok-ends.ends.items c.in_ok-items.items.items
-        c.loop-length.end c.loop-length.length-index inv.count (omega arith) inv.sums
+    c.loop-length.end c.loop-length.length-index inv.count (omega arith) inv.sums
     c.in_ok-push-2.ensures.items
     (c.in_ok-ends.ensures.items ∙ c.deref.ensures.value)

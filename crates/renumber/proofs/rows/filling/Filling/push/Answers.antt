@@ -48,14 +48,14 @@ pub index_mut-requires : goal.index_mut-requires
 index_mut-requires c =
     let i = c.self.inside in
     let e = end_is c.args.self.now i.starts.items i.ends.items i.items.items c.args.place c.index-end.result.now c.self.view_is
-        c.self.invariant c.requires.within c.requires.room c.index-end.ensures in
+    c.self.invariant c.requires.within c.requires.room c.index-end.ensures in
     omega (arith, e.3, i.items.ok.0)
 
 pub overflow_add-end : goal.overflow_add-end
 overflow_add-end c =
     let i = c.self.inside in
     let e = end_is c.args.self.now i.starts.items i.ends.items i.items.items c.args.place c.index-end.result.now c.self.view_is
-        c.self.invariant c.requires.within c.requires.room c.index-end.ensures in
+    c.self.invariant c.requires.within c.requires.room c.index-end.ensures in
     omega (arith, e.3, i.items.small, i.items.ok.0)
 
 pub index_mut-requires-2 : goal.index_mut-requires-2
@@ -68,7 +68,7 @@ pub invariant_of-self : goal.invariant_of-self
 invariant_of-self c =
     let i = c.self.inside in
     let e = end_is c.args.self.now i.starts.items i.ends.items i.items.items c.args.place c.index-end.result.now c.self.view_is
-        c.self.invariant c.requires.within c.requires.room c.index-end.ensures in
+    c.self.invariant c.requires.within c.requires.room c.index-end.ensures in
     ends_push i.starts.items i.ends.items i.items.items c.args.place c.index-end.result.now c.args.number c.self.invariant e.0 e.1 e.2
 
 abbrev value : List (List ℕ) → List ℕ → FillingValue
@@ -86,6 +86,6 @@ pub returns : goal.returns
 returns c =
     let i = c.self.inside in
     let e = end_is c.args.self.now i.starts.items i.ends.items i.items.items c.args.place c.index-end.result.now c.self.view_is
-        c.self.invariant c.requires.within c.requires.room c.index-end.ensures in
+    c.self.invariant c.requires.within c.requires.room c.index-end.ensures in
     pushed c.args.self.now i.starts.items i.ends.items i.items.items c.args.place c.index-end.result.now c.args.number c.self.view_is
     (parts_push i.starts.items i.ends.items i.items.items c.args.place c.index-end.result.now c.args.number c.self.invariant e.0 e.1 e.2)

@@ -19,7 +19,7 @@ overflow_add-next c =
     let b = of_vars (map var_of c.args.vars.now) in
     let lv : c.loop-var.var-index < length (map var_of c.args.vars.now) = omega (arith, length-map c.args.vars.now var_of, c.loop-var-test.true) in
     let after : var_start b c.loop-var.var-index + var_width b c.loop-var.var-index ≤ memory_length b =
-        (c.memory_holds.ensures.order b).vars c.loop-var.var-index (length (map var_of c.args.vars.now)) lv in
+    (c.memory_holds.ensures.order b).vars c.loop-var.var-index (length (map var_of c.args.vars.now)) lv in
     omega (arith, after, wide c, c.loop-var.invariant.next_is, c.requires)
 
 pub loop-var-preserved : goal.loop-var-preserved
@@ -27,7 +27,7 @@ loop-var-preserved c =
     let b = of_vars (map var_of c.args.vars.now) in
     let s : var_start b (suc c.loop-var.var-index) ≡ var_start b c.loop-var.var-index + var_width b c.loop-var.var-index = refl in
     begun_more (map var_of c.args.vars.now) c.loop-var.starts.items c.push.new.self.items c.loop-var.next
-        (c.loop-var.next + length c.as_slice.result.now) c.loop-var.var-index (c.loop-var.var-index + 1)
+    (c.loop-var.next + length c.as_slice.result.now) c.loop-var.var-index (c.loop-var.var-index + 1)
     c.loop-var.invariant c.in_ok-push.ensures.items refl (omega (arith, s, wide c, c.loop-var.invariant.next_is))
 
 pub returns : goal.returns

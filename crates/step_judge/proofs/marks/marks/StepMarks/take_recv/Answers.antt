@@ -5,13 +5,13 @@ pub invariant_of-self : goal.invariant_of-self
 invariant_of-self c =
     let step = rw (← c.self.view_is) at c.requires.step in
     (receive_wrote _ c.self.inside.at.items c.args.item c.args.from c.args.rank c.find-pair.result c.index_mut-here.result.now
-        c.receive.new.self c.self.invariant step c.index_mut-here.ensures.value c.find-pair.ensures.paired c.find-pair.ensures.place
-        c.receive.ensures).0
+    c.receive.new.self c.self.invariant step c.index_mut-here.ensures.value c.find-pair.ensures.paired c.find-pair.ensures.place
+    c.receive.ensures).0
 
 pub returns : goal.returns
 returns c =
     let step = rw (← c.self.view_is) at c.requires.step in
     rw (← c.self.view_is)
     (receive_wrote _ c.self.inside.at.items c.args.item c.args.from c.args.rank c.find-pair.result c.index_mut-here.result.now
-        c.receive.new.self c.self.invariant step c.index_mut-here.ensures.value c.find-pair.ensures.paired c.find-pair.ensures.place
-        c.receive.ensures).1
+    c.receive.new.self c.self.invariant step c.index_mut-here.ensures.value c.find-pair.ensures.paired c.find-pair.ensures.place
+    c.receive.ensures).1

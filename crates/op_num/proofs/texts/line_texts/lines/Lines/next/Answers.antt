@@ -10,4 +10,4 @@ returns-then-len-self c =
 pub returns : goal.returns
 returns c =
     line_cut c.args.self.now c.self.inside.taken _ _ _ _ _ c.self.view_is c.line_len-len.ensures.size c.line_len-len.ensures.within
-        c.if-len-self.false c.split_at.ensures.front c.split_at.ensures.back c.split_at-2.ensures.back
+    c.if-len-self.false c.split_at.ensures.front c.split_at.ensures.back c.split_at-2.ensures.back

@@ -9,4 +9,4 @@ returns-then-len-rest c =
 pub returns : goal.returns
 returns c =
     word_cut c.args.self.now _ _ _ _ _ (left_is _ _ _ c.in_ok-rest.was c.self.view_is) c.word_len-len.ensures.size
-        c.word_len-len.ensures.within c.if-len-rest.false c.split_at.ensures.front c.split_at.ensures.back c.split_at-2.ensures.back
+    c.word_len-len.ensures.within c.if-len-rest.false c.split_at.ensures.front c.split_at.ensures.back c.split_at-2.ensures.back
