@@ -1,4 +1,4 @@
-//! Laws of the definitions in `answers`: that any two answers to the same words over the same files agree, that there
+//! Laws of the definitions of this crate: that any two answers to the same words over the same files agree, that there
 //! is one for all words and files, and what the ending of a call tells of them.
 mod laws;
 

@@ -3,8 +3,8 @@
 //!
 //! `Tokens` cuts into tokens. A format says by a state what is awaited, and by `step` and `finish` what a token or the
 //! end does there; `specs/Automaton.antt` defines reading and the first refusal for any such format, and
-//! `proofs/Exact.antt` has what is to be shown of a format so that its reader is exact. `specs/Lines.antt` defines text
-//! that is written line by line.
+//! `proofs/texts/Exact.antt` has what is to be shown of a format so that its reader is exact. `specs/Lines.antt`
+//! defines text that is written line by line.
 mod cutter;
 pub mod line_texts;
 mod lines;
