@@ -3,10 +3,9 @@
 # on a set of no elements `op2 run` reads the source, judges its kernel and runs nothing. Shows each call's status, its seconds and its peak memory.
 # Usage: bench/access.sh     (OP2 may name another program)
 here=$(CDPATH= cd -- "$(dirname -- "$0")/.." && pwd) || exit 1
-op2=${OP2:-$here/op2}
+. "$here/bench/program.sh"
 work=$(mktemp -d) || exit 1
 trap 'rm -rf "$work"' EXIT
-"$op2" run "$here/examples/bump.c" "$here/examples/bump.mesh" >/dev/null || exit 1
 python3 - "$op2" "$work" <<'PY'
 import itertools, resource, subprocess, sys, time
 op2, work = sys.argv[1:]

@@ -6,8 +6,7 @@
 here=$(CDPATH= cd -- "$(dirname -- "$0")/.." && pwd) || exit 1
 work=$(mktemp -d) || exit 1
 trap 'rm -rf "$work"' EXIT
-op2=${OP2:-$here/op2}
-"$op2" run "$here/examples/bump.c" "$here/examples/bump.mesh" >/dev/null || exit 1
+. "$here/bench/program.sh"
 python3 - "$op2" "$work" "${1:-1048576}" <<'PY'
 import os, subprocess, sys, time
 op2, work, size = sys.argv[1], sys.argv[2], int(sys.argv[3])

@@ -4,10 +4,9 @@
 # both runs of the grid, less what `check` takes, nanoseconds for each run of a kernel, repeated ones counted.
 # Usage: bench/chains.sh [N]     (700 where none is given; OP2 may name another program)
 here=$(CDPATH= cd -- "$(dirname -- "$0")/.." && pwd) || exit 1
-op2=${OP2:-$here/op2}
+. "$here/bench/program.sh"
 work=$(mktemp -d) || exit 1
 trap 'rm -rf "$work"' EXIT
-"$op2" run "$here/examples/bump.c" "$here/examples/bump.mesh" >/dev/null || exit 1
 python3 - "$op2" "$work" "${1:-700}" <<'P'
 import resource, subprocess, sys, time
 op2, work, n = sys.argv[1], sys.argv[2], int(sys.argv[3])

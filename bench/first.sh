@@ -2,10 +2,9 @@
 # Times `op2 run examples/bump.c` on meshes of doubling size, and shows each run's peak memory.
 # Usage: bench/first.sh [SIZE ..]     (elements; 500000 1000000 2000000 4000000 where none is given; OP2 may name another program)
 here=$(CDPATH= cd -- "$(dirname -- "$0")/.." && pwd) || exit 1
-op2=${OP2:-$here/op2}
+. "$here/bench/program.sh"
 work=$(mktemp -d) || exit 1
 trap 'rm -rf "$work"' EXIT
-"$op2" run "$here/examples/bump.c" "$here/examples/bump.mesh" >/dev/null || exit 1
 [ $# -gt 0 ] || set -- 500000 1000000 2000000 4000000
 for size in "$@"; do
     awk -v n="$size" 'BEGIN {

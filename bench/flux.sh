@@ -5,12 +5,11 @@
 # compiled kernels alone: the flux kernel of the job `flux` of crates/op2_bench, for each of so many edges one after another in place on whole arrays.
 # Usage: bench/flux.sh [N ..]     (300 1000 where none is given; OP2 may name another program)
 here=$(CDPATH= cd -- "$(dirname -- "$0")/.." && pwd) || exit 1
-op2=${OP2:-$here/op2}
+. "$here/bench/program.sh"
 work=$(mktemp -d) || exit 1
 trap 'rm -rf "$work"' EXIT
-"$op2" run "$here/examples/bump.c" "$here/examples/bump.mesh" >/dev/null || exit 1
 [ $# -gt 0 ] || set -- 300 1000
-python3 "$here/bench/flux.py" "${OP2:-$here/crates/op2_cli/out/op2_cli}" "$work" 7 "$@" || exit 1
+python3 "$here/bench/flux.py" "$op2" "$work" 7 "$@" || exit 1
 program=$here/crates/op2_bench/out/op2_bench
 if [ ! -x "$program" ]; then
     echo 'building: each crate is proved first' >&2

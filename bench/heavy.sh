@@ -4,8 +4,7 @@
 # loop in one run, beside plain C by gcc -O2 where gcc is there. After a fault the run stops, so there is no second loop.
 # Usage: bench/heavy.sh [N]     (1000000 where none is given; OP2 may name another program)
 here=$(CDPATH= cd -- "$(dirname -- "$0")/.." && pwd) || exit 1
-op2=${OP2:-$here/op2}
+. "$here/bench/program.sh"
 work=$(mktemp -d) || exit 1
 trap 'rm -rf "$work"' EXIT
-"$op2" run "$here/examples/bump.c" "$here/examples/bump.mesh" >/dev/null || exit 1
-python3 "$here/bench/heavy.py" "${OP2:-$here/crates/op2_cli/out/op2_cli}" "$work" 5 "${1:-1000000}"
+python3 "$here/bench/heavy.py" "$op2" "$work" 5 "${1:-1000000}"

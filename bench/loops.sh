@@ -3,13 +3,12 @@
 # gcc -O2 where gcc is there, and machine instructions an element where valgrind is there, on a grid of 100 times 100.
 # Usage: bench/loops.sh [N]     (500 where none is given; OP2 may name another program)
 here=$(CDPATH= cd -- "$(dirname -- "$0")/.." && pwd) || exit 1
-op2=${OP2:-$here/op2}
+. "$here/bench/program.sh"
 work=$(mktemp -d) || exit 1
 trap 'rm -rf "$work"' EXIT
-"$op2" run "$here/examples/bump.c" "$here/examples/bump.mesh" >/dev/null || exit 1
 n=${1:-500}
 for size in 100 "$n"; do
     python3 "$here/bench/grid.py" "$work" "$size" || exit 1
     mv "$work/airfoil.mesh" "$work/$size.mesh"
 done
-python3 "$here/bench/loops.py" "${OP2:-$here/crates/op2_cli/out/op2_cli}" "$here/examples/sample2.c" "$work" 5 "$n" 100
+python3 "$here/bench/loops.py" "$op2" "$here/examples/sample2.c" "$work" 5 "$n" 100

@@ -6,10 +6,9 @@
 # its own plan's text, beside a C program that reads that text's numbers. Prints seconds of the processor, elapsed seconds and peak memory.
 # Usage: bench/plan.sh [N ..]     (250 500 1000 where none is given; from 1025 on there are too many steps; OP2 may name another program)
 here=$(CDPATH= cd -- "$(dirname -- "$0")/.." && pwd) || exit 1
-op2=${OP2:-$here/op2}
+. "$here/bench/program.sh"
 work=$(mktemp -d) || exit 1
 trap 'rm -rf "$work"' EXIT
-"$op2" run "$here/examples/bump.c" "$here/examples/bump.mesh" >/dev/null || exit 1
 [ $# -gt 0 ] || set -- 250 500 1000
 cat >"$work/grid.py" <<'P'
 import sys

@@ -3,10 +3,9 @@
 # cells, edges, boundary edges and ten turns of five loops. Prints time and peak memory, beside those of plain C loops where gcc is there.
 # Usage: bench/run.sh [N ..]     (cells a side; 70 140 280 where none is given; a plan of 400 has too many steps; OP2 may name another program)
 here=$(CDPATH= cd -- "$(dirname -- "$0")/.." && pwd) || exit 1
-op2=${OP2:-$here/op2}
+. "$here/bench/program.sh"
 work=$(mktemp -d) || exit 1
 trap 'rm -rf "$work"' EXIT
-"$op2" run "$here/examples/bump.c" "$here/examples/bump.mesh" >/dev/null || exit 1
 [ $# -gt 0 ] || set -- 70 140 280
 cat >"$work/airfoil.c" <<'C'
 extern int nnode; extern int ncell; extern int nedge; extern int nbedge;

@@ -5,10 +5,9 @@
 # and translating it (`op2 translate`).
 # Usage: bench/source.sh [BYTES ..]     (131072 262144 524288 1048576 where none is given; OP2 may name another program)
 here=$(CDPATH= cd -- "$(dirname -- "$0")/.." && pwd) || exit 1
-op2=${OP2:-$here/op2}
+. "$here/bench/program.sh"
 work=$(mktemp -d) || exit 1
 trap 'rm -rf "$work"' EXIT
-"$op2" run "$here/examples/bump.c" "$here/examples/bump.mesh" >/dev/null || exit 1
 [ $# -gt 0 ] || set -- 131072 262144 524288 1048576
 for size in "$@"; do
     python3 - "$op2" "$work/source.c" "$here/examples/bump.mesh" "$size" <<'PY'
@@ -66,7 +65,7 @@ read = min(spent(0) for _ in range(3))
 resolved = min(spent(4) for _ in range(3))
 print(f"{length + len(end)} bytes, {names} names, {2 * uses} uses: read in {read:.3f} s, resolved in {(resolved - read) / 4:.3f} s")
 PY
-python3 - "$program" "$here/crates/op2_cli/out/op2_cli" "$work/loops.c" "$work/stubs.c" <<'PY'
+python3 - "$program" "$op2" "$work/loops.c" "$work/stubs.c" <<'PY'
 import subprocess, sys, time
 read, op2, source, stubs = sys.argv[1:]
 loops, most = 10000, 1048576

@@ -4,7 +4,7 @@
 # the other hub in turn, each 32 of them between the same two, then as many between the two hubs. Prints seconds of the processor and peak memory.
 # Usage: bench/star.sh [EDGES ..]     (1048576 4194303 where none is given; the hubs take 1048576 at most; OP2 may name another program)
 here=$(CDPATH= cd -- "$(dirname -- "$0")/.." && pwd) || exit 1
-op2=${OP2:-$here/op2}
+. "$here/bench/program.sh"
 work=$(mktemp -d) || exit 1
 trap 'rm -rf "$work"' EXIT
 [ $# -gt 0 ] || set -- 1048576 4194303

@@ -3,10 +3,9 @@
 # without a state; the mesh text is read and written again. The program has no loop. Prints seconds of the processor, elapsed seconds and peak memory.
 # Usage: bench/state.sh [N]     (30000000 where none is given; N is a multiple of 1000; OP2 may name another program)
 here=$(CDPATH= cd -- "$(dirname -- "$0")/.." && pwd) || exit 1
-op2=${OP2:-$here/op2}
+. "$here/bench/program.sh"
 work=$(mktemp -d) || exit 1
 trap 'rm -rf "$work"' EXIT
-"$op2" run "$here/examples/bump.c" "$here/examples/bump.mesh" >/dev/null || exit 1
 cat >"$work/s.c" <<'P'
 extern int n;
 extern int a0[];

@@ -7,8 +7,7 @@ here=$(CDPATH= cd -- "$(dirname -- "$0")/.." && pwd) || exit 1
 [ $# -gt 0 ] || { sed -n '2,5p' "$0" >&2; exit 2; }
 work=$(mktemp -d) || exit 1
 trap 'rm -rf "$work"' EXIT
-op2=${OP2:-$here/op2}
-"$op2" run "$here/examples/bump.c" "$here/examples/bump.mesh" >/dev/null || exit 1
+. "$here/bench/program.sh"
 python3 "$here/bench/grid.py" "$work" "${2:-1000}" || exit 1
 awk 'BEGIN {
     print "op2mesh 1\nint n 4000000\nints a0 4000000"

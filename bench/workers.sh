@@ -6,8 +6,7 @@
 here=$(CDPATH= cd -- "$(dirname -- "$0")/.." && pwd) || exit 1
 work=$(mktemp -d) || exit 1
 trap 'rm -rf "$work"' EXIT
-op2=${OP2:-$here/op2}
-"$op2" run "$here/examples/bump.c" "$here/examples/bump.mesh" >/dev/null || exit 1
+. "$here/bench/program.sh"
 [ $# -gt 0 ] || set -- 2 4
 python3 "$here/bench/grid.py" "$work" 300 || exit 1
 edges() { sed "s/TURNS/$1/g" >"$work/edges$1.c" <<'C'

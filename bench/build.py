@@ -1,0 +1,69 @@
+#!/usr/bin/env python3
+"""Measures what a new user waits for: the first answer, ./prove, and the gate, each from a fresh clone of what is committed here, in a
+new home, with a kit beside which nothing is kept. Prints a table.
+
+    build.py [--on 0,1] [--log FILE] [answer] [prove] [gate]      (all three where none is named; --on: these processors alone)
+
+Run it with nothing else running: it says how busy the machine was at the start of each."""
+import argparse
+import datetime
+import os
+import shutil
+import subprocess
+import sys
+import tempfile
+import time
+
+TOP = os.path.dirname(os.path.dirname(os.path.realpath(__file__)))
+COMMANDS = {
+    "answer": ("first answer: ./op2 sample 20", ["./op2", "sample", "20"]),
+    "prove": ("both programs proved: ./prove", ["./prove"]),
+    "gate": ("the gate: rt ci --anew", ["rt", "ci", "--anew"]),
+}
+
+
+def link_or_copy(source, target):
+    try:
+        os.link(source, target)
+    except OSError:
+        shutil.copyfile(source, target)
+        shutil.copymode(source, target)
+
+
+def measure(name, work, log):
+    """Runs one of the three in a clone, home and kit of its own; gives its status and seconds."""
+    room = f"{work}/{name}"
+    os.makedirs(f"{room}/home")
+    kit = os.path.dirname(subprocess.run(["rt", "doc"], capture_output=True, text=True, check=True).stdout.strip())
+    shutil.copytree(kit, f"{room}/opt/kit", symlinks=True, copy_function=link_or_copy)
+    subprocess.run(["git", "clone", "-q", TOP, f"{room}/op2"], check=True)
+    environment = {**os.environ, "HOME": f"{room}/home", "PATH": f"{room}/opt/kit/bin:{os.environ['PATH']}"}
+    for name_of_choice in ("OP2_BUILD", "OP2_LANES", "RT_JOBS"):
+        environment.pop(name_of_choice, None)
+    print(f"{name}: begins at {datetime.datetime.now():%H:%M:%S}, load {os.getloadavg()[0]:.1f}", file=sys.stderr, flush=True)
+    began = time.time()
+    done = subprocess.run(COMMANDS[name][1], cwd=f"{room}/op2", env=environment, stdin=subprocess.DEVNULL, stdout=log, stderr=log, check=False)
+    took = time.time() - began
+    shutil.rmtree(room, ignore_errors=True)
+    return done.returncode, took
+
+
+def main():
+    parser = argparse.ArgumentParser(description=__doc__, formatter_class=argparse.RawDescriptionHelpFormatter)
+    parser.add_argument("names", nargs="*", choices=[*COMMANDS, []], metavar="answer, prove, gate")
+    parser.add_argument("--on", help="processors, as 0,1")
+    parser.add_argument("--log", default=f"{tempfile.gettempdir()}/op2-build.log")
+    given = parser.parse_args()
+    if given.on:
+        os.sched_setaffinity(0, {int(number) for number in given.on.split(",")})
+    state = subprocess.run(["git", "-C", TOP, "rev-parse", "--short", "HEAD"], capture_output=True, text=True, check=True).stdout.strip()
+    kit = subprocess.run(["rt", "version"], capture_output=True, text=True, check=True).stdout.split()[0]
+    processors = len(os.sched_getaffinity(0))
+    print(f"| {state}, {kit}, {datetime.date.today()}, {processors} processors | minutes | status |\n|---|---|---|", flush=True)
+    with tempfile.TemporaryDirectory(prefix="op2-build-", dir=os.environ.get("TMPDIR", "/var/tmp")) as work, open(given.log, "w") as log:
+        for name in given.names or COMMANDS:
+            status, seconds = measure(name, work, log)
+            print(f"| {COMMANDS[name][0]} | {seconds / 60:.1f} | {status} |", flush=True)
+
+
+main()
