@@ -149,7 +149,9 @@ def main():
         table = tomllib.loads(file.read_text())
         for row in table["row"]:
             line = row.get("err", "")
-            if row.get("tools") or len(row["words"]) < 2 or row["words"][1] not in row.get("files", {}) or row["words"][0] in ("convert", "restore") or row.get("cuts"):
+            if row.get("tools") or len(row["words"]) < 2 or row["words"][1] not in row.get("files", {}) or row.get("cuts"):
+                continue
+            if row["words"][0] in ("convert", "restore") or row["words"][0].startswith("-"):
                 continue
             if "read_fails" in row or "report_fails" in row or row.get("status", 0) in (1, 2, 3) or "source-bytes" in line or "source lex" in line or "depth" in line:
                 continue
