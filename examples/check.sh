@@ -4,10 +4,10 @@
 # with other blocks and colours, and in two halves, the second from that state on four ranks, and by chains. Each example is run once more as it is translated and restored,
 # and as the C compilers that are there (gcc, clang) make it a program. Pictures and what plans cost are written again, as NAME.svg or NAME.vtk and NAME.stat.
 # Ends with the number of differences.
-# Usage: examples/check.sh [OP2 [TOOLS]]     (programs; `op2` and `op2-tools` of the repository where none is given)
+# Usage: examples/check.sh [OP2 [TOOLS]]     (programs; else what OP2 and OP2_TOOLS name, else those of the repository)
 here=$(CDPATH= cd -- "$(dirname -- "$0")" && pwd) || exit 70
-op2=${1:-$here/../op2}
-tools=${2:-$here/../op2-tools}
+op2=${1:-${OP2:-$here/../op2}}
+tools=${2:-${OP2_TOOLS:-$here/../op2-tools}}
 work=$(mktemp -d) || exit 70
 trap 'rm -rf "$work"' EXIT
 bad=0

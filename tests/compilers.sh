@@ -2,9 +2,9 @@
 # Makes a program of each example, of tests/compilers/*.c and of the sample by the C compilers that are there (gcc, clang), without and with optimization, by
 # include/op2_seq.h, and compares what it prints with what op2 prints, byte for byte. Shows then that a sanitizer names the line at which a value wraps.
 # Ends with the number of differences; with 70 where no compiler is there.
-# Usage: tests/compilers.sh [OP2]     (OP2 a program, `op2` of the repository where none is given)
+# Usage: tests/compilers.sh [OP2]     (a program; else what OP2 names, else that of the repository)
 here=$(CDPATH= cd -- "$(dirname -- "$0")/.." && pwd) || exit 70
-op2=${1:-$here/op2}
+op2=${1:-${OP2:-$here/op2}}
 work=$(mktemp -d) || exit 70
 trap 'rm -rf "$work"' EXIT
 bad=0

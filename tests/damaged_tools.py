@@ -2,13 +2,13 @@
 """Runs each job of `op2-tools` over files that are cut or damaged: over every front of each file that it reads, and over copies with a byte changed, or with a word
 left out, twice or moved. Each call must end with a status of docs/TOOLS.md, and with one line exactly where that isn't 0; then nothing stands on standard
 output. A picture must be XML, a grid begin and end as VTK's do, and `explain` must begin with the line and the status of `op2`.
-Ends with 1 where a call doesn't.
-Usage: tests/damaged_tools.py [TOOLS [OP2]] [--copies N] [--seed N]     (1000 copies for each job; the programs of the repository where none are given)
+Ends with 1 where a call doesn't. There are 1000 copies for each job where no N is given.
+Usage: tests/damaged_tools.py [OP2 [TOOLS]] [--copies N] [--seed N]     (programs; else what OP2 and OP2_TOOLS name, else those of the repository)
 """
 import argparse, collections, concurrent.futures, pathlib, random, re, subprocess, sys, tempfile, threading
 import xml.etree.ElementTree as xml
+from programs import programs
 
-top = pathlib.Path(__file__).resolve().parent.parent
 SOURCE = b"""extern int nnode; extern int ncell; extern int cell[]; extern int x0[]; extern int q0[];
 void add(const int *x, int *q) { *q += x[0]; }
 int main(int argc, char **argv) {
@@ -137,11 +137,12 @@ def texts_of(asked, folder):
 
 def main():
     words = argparse.ArgumentParser()
-    words.add_argument("tools", nargs="?", default=top / "op2-tools", type=lambda name: pathlib.Path(name).resolve())
-    words.add_argument("op2", nargs="?", default=top / "op2", type=lambda name: pathlib.Path(name).resolve())
+    words.add_argument("op2", nargs="?")
+    words.add_argument("tools", nargs="?")
     words.add_argument("--copies", type=int, default=1000)
     words.add_argument("--seed", type=int, default=1)
     asked = words.parse_args()
+    asked.op2, asked.tools = programs(asked.op2, asked.tools)
     draw, here, bad = random.Random(asked.seed), threading.local(), 0
     with tempfile.TemporaryDirectory() as name:
         texts = texts_of(asked, pathlib.Path(name))

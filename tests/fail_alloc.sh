@@ -2,7 +2,7 @@
 # Makes each allocation of some calls fail in turn, by a shim in front of the C library's malloc (needs cc). Each such run must end with status 1, the line
 # `op2: out of memory` and nothing on standard output, or as if nothing had failed, where what failed can be done without. Prints for each call how many
 # allocations were tried. Ends with 1 where a run ends otherwise.
-# Usage: tests/fail_alloc.sh [OP2 [TOOLS]]     (programs; `op2` and `op2-tools` of the repository where none is given)
+# Usage: tests/fail_alloc.sh [OP2 [TOOLS]]     (programs and no scripts; else what OP2 and OP2_TOOLS name, else those of the repository)
 here=$(CDPATH= cd -- "$(dirname -- "$0")/.." && pwd) || exit 70
 work=$(mktemp -d) || exit 70
 trap 'rm -rf "$work"' EXIT
@@ -49,7 +49,7 @@ int posix_memalign(void **p, size_t a, size_t n) {
 }
 C
 cc -shared -fPIC -O1 -o "$work/shim.so" "$work/shim.c" -ldl || exit 70
-op2=$1 tools=$2
+op2=${1:-$OP2} tools=${2:-$OP2_TOOLS}
 if [ -z "$op2" ]; then
     "$here/op2" --version >/dev/null || exit 70
     op2=$here/crates/op2_cli/out/op2_cli

@@ -1,12 +1,13 @@
 #!/usr/bin/env python3
 """Holds `op2-tools from-gmsh` against a second reading of its rules (docs/TOOLS.md): meshes of triangles, quadrangles, tetrahedra and hexahedra in versions
 2.2 and 4.1 of Gmsh's format, texts that are refused, every prefix of a small file, and damaged copies. Each call must give the bytes that this script finds,
-or its status and line. With OP2, the source that `--source` writes is run over the mesh, and must print the sums that this script finds. With --million
-a million tetrahedra are timed, and a mesh is tried that `op2` doesn't take.
-Usage: tests/gmsh.py TOOLS [OP2] [--copies N] [--seed N] [--million]
+or its status and line. The source that `--source` writes is run over the mesh, and must print the sums that this script finds. With --million
+a million tetrahedra are timed, and a mesh is tried that `op2` doesn't take. There are 1000 copies where no N is given.
+Usage: tests/gmsh.py [OP2 [TOOLS]] [--copies N] [--seed N] [--million]     (programs; else what OP2 and OP2_TOOLS name, else those of the repository)
 """
 import argparse, pathlib, random, re, subprocess, sys, tempfile, time
 from fractions import Fraction
+from programs import programs, top
 
 CORNERS = {"triangle": [(0, 1), (1, 2), (2, 0)], "quadrangle": [(0, 1), (1, 2), (2, 3), (3, 0)],
            "tetrahedron": [(0, 2, 1), (0, 1, 3), (0, 3, 2), (3, 1, 2)],
@@ -15,7 +16,7 @@ NODES = {"point": 1, "line": 2, "triangle": 3, "quadrangle": 4, "tetrahedron": 4
 KINDS = {1: "line", 2: "triangle", 3: "quadrangle", 4: "tetrahedron", 5: "hexahedron", 15: "point"}
 SIDES = {"triangle": "line", "quadrangle": "line", "tetrahedron": "triangle", "hexahedron": "quadrangle"}
 VALUES, BYTES = 33554432, 268435456
-EXAMPLES = pathlib.Path(__file__).resolve().parent.parent / "examples"
+EXAMPLES = top / "examples"
 
 
 class Refused(Exception):
@@ -510,12 +511,13 @@ def beyond(tools, folder):
 
 def main():
     words = argparse.ArgumentParser()
-    words.add_argument("tools", type=lambda name: pathlib.Path(name).resolve())
-    words.add_argument("op2", nargs="?", type=lambda name: pathlib.Path(name).resolve())
+    words.add_argument("op2", nargs="?")
+    words.add_argument("tools", nargs="?")
     words.add_argument("--copies", type=int, default=1000)
     words.add_argument("--seed", type=int, default=1)
     words.add_argument("--million", action="store_true")
     asked = words.parse_args()
+    asked.op2, asked.tools = programs(asked.op2, asked.tools)
     draw, wrong, done = random.Random(asked.seed), 0, 0
     with tempfile.TemporaryDirectory() as name:
         folder = pathlib.Path(name)
@@ -545,7 +547,7 @@ def main():
             if got.returncode or got.stderr:
                 wrong += 1
                 print(f"{name} --source: {got}")
-            elif asked.op2:
+            else:
                 (folder / "s.c").write_bytes(got.stdout)
                 (folder / "m.mesh").write_bytes(mesh_text(entries))
                 for ranks in ([], ["--ranks", "3"]):

@@ -1,12 +1,12 @@
 #!/usr/bin/env python3
 """Tries what OP2 codes have and op2 hasn't: runs each idiom of tests/idioms.toml, compares the line that op2 writes, and runs what the page says
 to write instead, which must run. Then looks whether docs/PORTING.md has the tables that these idioms make. Ends with 1 where one differs.
-Usage: tests/idioms.py [OP2]     (OP2 a program, `op2` of the repository where none is given)
+Usage: tests/idioms.py [OP2]     (a program; else what OP2 names, else that of the repository)
        tests/idioms.py --tables  (prints the tables, and runs nothing)
 """
 import pathlib, subprocess, sys, tempfile, tomllib
+from programs import programs, top
 
-top = pathlib.Path(__file__).resolve().parent.parent
 data = tomllib.loads((top / "tests/idioms.toml").read_text())
 page = (top / "docs/PORTING.md").read_text()
 
@@ -50,7 +50,7 @@ def main():
     if sys.argv[1:] == ["--tables"]:
         print("\n".join(tables()))
         return 0
-    op2 = pathlib.Path(sys.argv[1] if len(sys.argv) > 1 else top / "op2").resolve()
+    op2, _ = programs(*sys.argv[1:])
     bad = 0
     with tempfile.TemporaryDirectory() as name:
         folder = pathlib.Path(name)

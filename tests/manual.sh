@@ -1,10 +1,10 @@
 #!/bin/sh
 # Compares the man pages and completions of docs/ with what tools/manual makes of the words of `op2 --help` and `op2-tools --help`, asks groff and bash whether
 # they can read them, and tries some completions. Ends with the number of differences.
-# Usage: tests/manual.sh [OP2 [TOOLS]]     (programs; `op2` and `op2-tools` of the repository where none is given)
+# Usage: tests/manual.sh [OP2 [TOOLS]]     (programs; else what OP2 and OP2_TOOLS name, else those of the repository)
 here=$(CDPATH= cd -- "$(dirname -- "$0")/.." && pwd) || exit 70
-op2=${1:-$here/op2}
-tools=${2:-$here/op2-tools}
+op2=${1:-${OP2:-$here/op2}}
+tools=${2:-${OP2_TOOLS:-$here/op2-tools}}
 work=$(mktemp -d) || exit 70
 trap 'rm -rf "$work"' EXIT
 bad=0

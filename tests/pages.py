@@ -1,12 +1,12 @@
 #!/usr/bin/env python3
 """Runs the examples in the tables of docs/ERRORS.md and docs/ACCESSES.md, and compares each line that op2 writes with the one that stands there.
 Ends with 1 where one differs.
-Usage: tests/pages.py [OP2]     (OP2 a program, `op2` of the repository where none is given)
+Usage: tests/pages.py [OP2]     (a program; else what OP2 names, else that of the repository)
 """
 import pathlib, re, subprocess, sys, tempfile
+from programs import programs, top
 
-top = pathlib.Path(__file__).resolve().parent.parent
-op2 = pathlib.Path(sys.argv[1] if len(sys.argv) > 1 else top / "op2").resolve()
+op2, _ = programs(*sys.argv[1:])
 bad = tried = 0
 
 

@@ -3,13 +3,13 @@
 parser and by a reader of VTK's legacy form of its own, and compares each polygon's and each cell's nodes, places and number, and each array
 with what the run printed. Calls both on names, ranks and loops that are refused, on every front of a small mesh file and of an output, and on
 copies of the output with one byte changed. Ends with the number of differences.
-Usage: tests/pictures.py OP2 OP2_TOOLS     (the two programs)
+Usage: tests/pictures.py [OP2 [TOOLS]]     (programs; else what OP2 and OP2_TOOLS name, else those of the repository)
 """
 import pathlib, re, subprocess, sys, tempfile
 import xml.etree.ElementTree as xml
+from programs import programs, top
 
-here = pathlib.Path(__file__).resolve().parent.parent
-op2, tools = sys.argv[1:3]
+op2, tools = programs(*sys.argv[1:])
 SVG = "{http://www.w3.org/2000/svg}"
 differences = 0
 
@@ -268,20 +268,20 @@ with tempfile.TemporaryDirectory() as folder:
     space.write_text(SPACE)
     space_mesh.write_text(SPACE_MESH)
     check_mesh(space, space_mesh, ("x", "x0", 3, "tets", "cell", 4, "cells"), 10, 0)
-    sample = here / "examples/sample2.c"
+    sample = top / "examples/sample2.c"
     names = ("x", "x0", 2, "pcell", "cell", 4, "cells")
-    check_mesh(sample, here / "examples/sample2.mesh", names, 9, 0)
+    check_mesh(sample, top / "examples/sample2.mesh", names, 9, 0)
     grid = pathlib.Path(folder, "grid.mesh")
     grid.write_text(grid_mesh(12))
     check_mesh(sample, grid, names, 9, 0)
-    check_refusals(sample, here / "examples/sample2.mesh")
-    check_words(sample, here / "examples/sample2.mesh")
+    check_refusals(sample, top / "examples/sample2.mesh")
+    check_words(sample, top / "examples/sample2.mesh")
     differs("draw of space", called(tools, "draw", space, space_mesh, "--coords", "x", "--cells", "tets"), (20, "", "op2-tools: draw 5 name x\n"))
     out = pathlib.Path(folder, "space.out")
     out.write_text(text_of(op2, "run", space, space_mesh))
     asked = (space, space_mesh, "--coords", "x", "--cells", "tets")
     check_output("space", asked, out, {"q"}, {"x", "p"})
-    air = here / "examples/airfoil"
+    air = top / "examples/airfoil"
     check_output("airfoil", (air / "step5.c", air / "airfoil.mesh", "--coords", "x", "--cells", "pcell"), air / "step5.out", {"q"}, set())
     text, cut = out.read_bytes(), pathlib.Path(folder, "cut")
     for k in range(len(text)):

@@ -2,13 +2,12 @@
 """Runs the commands that stand in the pages, in a copy of what they name: each block of shell, whose output is compared with the block that follows it at
 once, and each session, in which commands begin with `$`. Ends with 1 where one differs, or fails where the page doesn't say so. A session of
 `tools/graph_parts` is left out where Python has no networkx.
-Usage: tests/sessions.py [OP2 [TOOLS]]     (programs; `op2` and `op2-tools` of the repository where none is given)
+Usage: tests/sessions.py [OP2 [TOOLS]]     (programs; else what OP2 and OP2_TOOLS name, else those of the repository)
 """
-import importlib.util, os, pathlib, re, shutil, subprocess, sys, tempfile
+import importlib.util, os, pathlib, re, shlex, shutil, subprocess, sys, tempfile
+from programs import programs, top
 
-top = pathlib.Path(__file__).resolve().parent.parent
-op2 = pathlib.Path(sys.argv[1] if len(sys.argv) > 1 else top / "op2").resolve()
-tools = pathlib.Path(sys.argv[2] if len(sys.argv) > 2 else top / "op2-tools").resolve()
+op2, tools = programs(*sys.argv[1:])
 pages = ["README.md", "examples/README.md"]
 pages += [f"docs/{page}.md" for page in ("CHAINS", "COMPILERS", "GMSH", "OUTPUT", "PORTING", "STATEMENT", "TOOLS", "TUTORIAL")]
 bad = tried = 0
@@ -34,7 +33,7 @@ with tempfile.TemporaryDirectory() as name:
         shutil.copytree(top / part, folder / part)
     (folder / "crates").symlink_to(top / "crates")
     for name, program in (("op2", op2), ("op2-tools", tools)):
-        (folder / name).write_text(f'#!/bin/sh\nexec {program} "$@"\n')
+        (folder / name).write_text(f'#!/bin/sh\nexec {shlex.quote(str(program))} "$@"\n')
         (folder / name).chmod(0o755)
     for page in pages:
         parts = re.split(r"^```(\w*)\n(.*?)^```\n", (top / page).read_text(), flags=re.M | re.S)

@@ -1,12 +1,12 @@
 #!/usr/bin/env python3
 """Compares `op2-tools stat` with counts that are taken here from the plan that `op2 plan` writes, over the examples on 1 to 5 ranks.
 Ends with 1 where one differs.
-Usage: tests/stat.py [TOOLS [OP2]]     (programs; `op2-tools` and `op2` of the repository where none are given)
+Usage: tests/stat.py [OP2 [TOOLS]]     (programs; else what OP2 and OP2_TOOLS name, else those of the repository)
 """
 import pathlib, re, subprocess, sys, tempfile
+from programs import programs, top
 
-top = pathlib.Path(__file__).resolve().parent.parent
-tools, op2 = (pathlib.Path(sys.argv[k] if len(sys.argv) > k else top / name).resolve() for k, name in ((1, "op2-tools"), (2, "op2")))
+op2, tools = programs(*sys.argv[1:])
 tried = bad = 0
 
 
