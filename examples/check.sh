@@ -2,7 +2,8 @@
 # Runs each example on one rank and on four, and compares what it prints with NAME.out, and the example `sample2` with the sample on a grid of 2 times 2 cells;
 # writes the mesh of `sample2` again, the plan of `heat` on two ranks, its translation, and its state before item 12; runs `heat` by that plan, and by one
 # with other blocks and colours, and in two halves, the second from that state on four ranks, and by chains. Each example is run once more as it is translated and restored,
-# and as the C compilers that are there (gcc, clang) make it a program. Pictures and what plans cost are written again, as NAME.svg or NAME.vtk and NAME.stat.
+# and as the C compilers that are there (gcc, clang) make it a program. Pictures and what plans cost are written again, as NAME.svg or NAME.vtk and NAME.stat,
+# and meshes by the scripts that wrote them.
 # Ends with the number of differences.
 # Usage: examples/check.sh [OP2 [TOOLS]]     (programs; else what OP2 and OP2_TOOLS name, else those of the repository)
 here=$(CDPATH= cd -- "$(dirname -- "$0")" && pwd) || exit 70
@@ -11,12 +12,19 @@ tools=${2:-${OP2_TOOLS:-$here/../op2-tools}}
 work=$(mktemp -d) || exit 70
 trap 'rm -rf "$work"' EXIT
 bad=0
+compilers=
+for compiler in gcc clang; do
+    if command -v "$compiler" >"$work/found"; then
+        compilers="$compilers $compiler"
+    else
+        echo "left out: programs by $compiler"
+    fi
+done
 
 # The source, its mesh and what is to be printed, by C compilers (docs/COMPILERS.md).
 compiled() {
     "$here/../tools/mesh_c" "$2" >"$work/mesh.c"
-    for compiler in gcc clang; do
-        command -v "$compiler" >"$work/found" || continue
+    for compiler in $compilers; do
         if ! "$compiler" -std=c11 -w -O2 -fwrapv -include "$here/../include/op2_seq.h" "$1" "$work/mesh.c" -o "$work/program" ||
             ! "$work/program" | cmp -s - "$3"; then
             echo "differs: $(basename "$1") by $compiler" >&2
@@ -30,6 +38,16 @@ written() {
     file=$1
     shift
     if ! "$tools" "$@" | cmp -s - "$here/$file"; then
+        echo "differs: $file" >&2
+        bad=$((bad + 1))
+    fi
+}
+
+# The mesh that a script writes, with the words behind its name.
+made() {
+    file=$1
+    shift
+    if ! python3 "$@" | cmp -s - "$here/$file"; then
         echo "differs: $file" >&2
         bad=$((bad + 1))
     fi
@@ -105,6 +123,13 @@ if ! "$op2" translate "$here/heat.c" | cmp -s - "$here/heat.stubs"; then
     echo 'differs: the translation of heat' >&2
     bad=$((bad + 1))
 fi
+made airfoil/airfoil.mesh "$here/airfoil/mesh.py"
+for name in jac jacobi paths; do
+    made "$name.mesh" "$here/${name}_mesh.py"
+done
+made bar.msh "$here/bar_msh.py"
+made cube.msh "$here/cube_mesh.py" 4.1
+made cube22.msh "$here/cube_mesh.py" 2.2
 # The pictures of examples/README.md, and what the plans cost.
 pictured airfoil/step5 airfoil/airfoil.mesh pcell bisect:x
 pictured jacobi jacobi.mesh pcell bisect:x

@@ -75,7 +75,7 @@ for compiler in gcc clang; do
     if command -v "$compiler" >/dev/null; then
         compilers="$compilers $compiler"
     else
-        echo "not there: $compiler" >&2
+        echo "left out: programs by $compiler"
     fi
 done
 [ -n "$compilers" ] || exit 70

@@ -13,6 +13,7 @@ differs() {
     bad=$((bad + 1))
 }
 
+command -v groff >"$work/found" || echo 'left out: man pages as groff reads them'
 for program in "$op2" "$tools"; do
     "$program" --help >"$work/help" || differs "$program --help"
     "$here/tools/manual" "$work/help" "$work" || differs 'tools/manual'
