@@ -122,7 +122,7 @@ def main():
     asked = words.parse_args()
     asked.op2, asked.tools = programs(asked.op2, asked.tools)
     rows = differing = left_out = 0
-    with concurrent.futures.ThreadPoolExecutor(os.cpu_count()) as pool:
+    with concurrent.futures.ThreadPoolExecutor(len(os.sched_getaffinity(0))) as pool:
         calls = []
         for path in asked.tables or sorted(DATA.glob("*.toml")):
             table = tomllib.loads(path.read_text())
