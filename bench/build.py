@@ -18,7 +18,7 @@ TOP = os.path.dirname(os.path.dirname(os.path.realpath(__file__)))
 COMMANDS = {
     "answer": ("first answer: ./op2 sample 20", ["./op2", "sample", "20"]),
     "prove": ("both programs proved: ./prove", ["./prove"]),
-    "gate": ("the gate: rt ci --anew", ["rt", "ci", "--anew"]),
+    "gate": ("the gate: rt ci --anew", ["sh", "-c", "RT_JOBS=$(python3 tools/repository.py) rt ci --anew"]),
 }
 
 

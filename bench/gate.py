@@ -50,7 +50,9 @@ def run():
     """Runs the gate; gives its last line, its wall seconds, and the processes that were seen."""
     found, began = {}, time.time()
     with open(log, "w") as out:
-        gate = subprocess.Popen(["rt", "ci"], cwd=clone, stdout=out, stderr=out, stdin=subprocess.DEVNULL)
+        lanes = subprocess.run([sys.executable, "tools/repository.py"], cwd=clone, capture_output=True, text=True, check=True).stdout.strip()
+        environment = {**os.environ, "RT_JOBS": lanes}
+        gate = subprocess.Popen(["rt", "ci"], cwd=clone, env=environment, stdout=out, stderr=out, stdin=subprocess.DEVNULL)
         while gate.poll() is None:
             look(found, time.time() - began)
             time.sleep(1)

@@ -1,5 +1,7 @@
 """The crates of this repository as crates.txt names them, the sums of their texts, and the kit: what ./prove and the
-scripts of tools/ build by."""
+scripts of tools/ build by.
+
+Called by itself it prints how many proofs can run side by side here."""
 import functools
 import hashlib
 import os
@@ -12,6 +14,9 @@ BUILD = f"{TOP}/build"
 
 # The programs by the names that users give them.
 PROGRAMS = {"op2": "op2_cli", "op2-tools": "op2_tools"}
+
+# The memory that a proof may want.
+LANE_BYTES = 5_000_000_000
 
 # The folders of a crate whose texts make a program what it is: its code, and what has been proved of that. A proof that was
 # found stays one, whatever becomes of its text.
@@ -66,6 +71,13 @@ def sums(crates, tops, parts, top=TOP):
         texts = [text_sum(top, crate, parts), *uses]
         found[crate] = hashlib.sha256("\n".join(texts).encode()).hexdigest()
     return found
+
+
+def count_lanes():
+    """How many proofs can run side by side: one a processor, as far as free memory has room for them."""
+    with open("/proc/meminfo", encoding="utf-8") as lines:
+        free = next(int(line.split()[1]) * 1024 for line in lines if line.startswith("MemAvailable:"))
+    return max(1, min(len(os.sched_getaffinity(0)), free // LANE_BYTES))
 
 
 def kit_folder():
@@ -128,3 +140,7 @@ class Stamp:
 def program_stamp(name, kind):
     """That of a program, 'proved' or 'compiled', by the name that users give it."""
     return Stamp(f"{BUILD}/{kind}/{name}")
+
+
+if __name__ == "__main__":
+    print(count_lanes())
