@@ -7,13 +7,14 @@ use Rattle.kernel_model.specs.declared.types.statements.RStmt.{RStmt, Block', De
 use Rattle.kernel_model.specs.Resolved.{StmtWithin, RowWithin, StoresOnly, RowStoresOnly, CountersKept, RowCountersKept}
 use Rattle.kernel_model.specs.Numbers.{is_zero}
 use Rattle.kernel_model.specs.Meaning.{Store, Target, target_at, read_arg, index_in, value_of, Outcome, Done, Faulted, stored, turns, meaning, meaning_of_all, without_locals}
-use Rattle.op_num.specs.Access.{OpRead, OpWrite, OpRw}
+use Rattle.op_num.specs.Access.{OpRead, OpWrite, OpRw, OpReduce}
 use Rattle.kernel_model.specs.Obeys.{Mode, Counters, no_counters, with_counter, Event, expr_events, EachTurn, Path, RowPath, turn_events, events, row_events, Assigned, AllAllowed, assigned_after, AllWritten}
 use Rattle.kernel_model.specs.Independence.{access, dim, SameStoredAliases, Alone, SameRuns, Independence, StoredIndependence}
 use Rattle.kernel_model.proofs.Paths.{some_expr_path, some_path, some_row_path, each_turn, allowed_front, allowed_back, assigned_after-append, expr_keeps, after_expr}
 use Rattle.kernel_model.proofs.Locals.{kept}
 use Rattle.kernel_model.proofs.Static.{Free, Held, held_set, held_counter, free_counter, stores_both, stores_free}
 use Rattle.kernel_model.proofs.Agreement.{Known, known_read, known_rw, known_write, Agrees, start_merged}
+use Rattle.kernel_model.proofs.Stores.{same_cell_refl}
 use Rattle.kernel_model.proofs.SameValues.{expr_same}
 use Rattle.kernel_model.proofs.SameStores.{Ends, ends_weaker, ends_then, ends_value, ends_cond}
 use Rattle.kernel_model.proofs.SameAssignments.{set_arg}
@@ -167,7 +168,9 @@ stored_independence k modes consts ts us s t resolved obeys su tu aliases inputs
 
     first_amount : (r : Reduction) (a i : ℕ) → i < dim modes a → Alone modes r ts a i → (d : ℤ)
         × (read_arg ts s a i ≡ merged r (read_arg ts s a i) d) × (read_arg us t a i ≡ merged r (read_arg us t a i) d)
-    first_amount r a i lt alone = (unit_of r, start_merged r (read_arg ts s a i) (su.numbers a i lt), start_merged r (read_arg us t a i) (tu.numbers a i lt))
+    first_amount r a i lt alone =
+        let by : access modes a ≡ OpReduce r = alone a i lt (same_cell_refl ts a i) in
+        (unit_of r, start_merged r (read_arg ts s a i) (su.numbers r a i lt by), start_merged r (read_arg us t a i) (tu.numbers r a i lt by))
 
     start : Agrees modes ts us aliases s t [] s t
     start = record {

@@ -34,12 +34,12 @@ module _ (modes : List Mode) where
   abbrev pub dim : ℕ → ℕ
   dim a = (mode_at modes a).dim
 
-  -- the arguments name cells of the store, as many as the modes say, that hold numbers of 32 bits
+  -- the arguments name cells of the store, as many as the modes say; those of arguments that reduce hold numbers of 32 bits
   pub record Suits (ts : List Target) (s : Store) : Type 0 where
     pub counts : (a : ℕ) → (target_at ts a).count ≡ dim a
     pub arrays : (a i : ℕ) → i < dim a → (target_at ts a).array < length s
     pub cells : (a i : ℕ) → i < dim a → (target_at ts a).from + i < length (slice_index_or s (target_at ts a).array [])
-    pub numbers : (a i : ℕ) → i < dim a → FitsSigned w32 (read_arg ts s a i)
+    pub numbers : (r : Reduction) (a i : ℕ) → i < dim a → access a ≡ OpReduce r → FitsSigned w32 (read_arg ts s a i)
 
   -- the same pairs of components are one cell
   abbrev pub SameAliases : List Target → List Target → Type 0
