@@ -64,7 +64,7 @@ module _ (indep : Independence) (reads : ReadsStay) (ops : (r : Reduction) → I
       counts = held.counts;
       arrays = λ a i lt. held.fits.arrays a i (subst (λ c. i < c) (sym (held.counts a)) lt);
       cells = λ a i lt. held.fits.cells a i (subst (λ c. i < c) (sym (held.counts a)) lt);
-      numbers = λ a i lt. subst (FitsSigned w32) (sym (held.values a i lt)) (in_s (cell_of a i));
+      numbers = λ r a i lt by. subst (FitsSigned w32) (sym (held.values a i lt)) (in_s (cell_of a i));
     }
 
     -- an argument that reaches the same cell of the lists reaches the same cell
