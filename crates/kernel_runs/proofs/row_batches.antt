@@ -5,6 +5,7 @@ pub mod Merged
 pub mod Moves
 pub mod Picks
 pub mod Ran
+pub mod Reduced
 pub mod SomeRows
 pub mod Standing
 pub mod Stays

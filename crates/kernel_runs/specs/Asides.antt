@@ -1,6 +1,5 @@
 -- Batches that ran on columns of their own and are put back later, and what their places touch of a memory.
-use Rattle.std.specs.Prelude.{◌≡◌, ◌≢◌, ◌<◌, ◌≤◌, ◌+◌, ◌⊎◌, ℕ, ℤ, pos, true, FitsSigned, List, [], ◌∷◌, length, map, take, get_or, slice_index}
-use Rattle.std.specs.Int.{w32}
+use Rattle.std.specs.Prelude.{◌≡◌, ◌≢◌, ◌<◌, ◌≤◌, ◌+◌, ◌⊎◌, ℕ, ℤ, pos, true, List, [], ◌∷◌, length, map, take, get_or, slice_index}
 use Rattle.op_num.specs.Access.{OpRead, OpRw}
 use Rattle.kernel_model.specs.declared.types.views.frame.Place.{Place}
 use Rattle.kernel_model.specs.Framed.{target_of}
@@ -48,7 +47,6 @@ module _ (y : RowLoop) where
 
     -- in each of the first rows the frame has what the kernel leaves of columns that were filled from the memory
     pub record IsAside (numbers : List (List ℕ)) (memory : List ℤ) (frame : List (List ℤ)) : Type 0 where
-      pub some : 0 < rows
       pub few : rows ≤ ROWS
       pub differ : y.differ ≡ true → AreDifferent rows batch
       pub ways : length y.ways.now ≤ length numbers
@@ -56,7 +54,6 @@ module _ (y : RowLoop) where
       pub apart : NeverInPairs rows y.pairs.now numbers
       pub begun : List (List ℤ)
       pub long : width y ≤ length begun
-      pub fits : (c l : ℕ) → FitsSigned w32 (at_row l (get_or begun c []))
       pub filled : (c : ℕ)
           → c < length y.columns.now → IsFilled numbers rows memory (column_in y.columns.now c) (get_or begun c [])
       pub firsts : (j l : ℕ)

@@ -6,7 +6,6 @@ mod laws;
 mod meeting;
 mod places;
 mod putting;
-mod ranges;
 mod rows;
 mod ways;
 

@@ -26,7 +26,6 @@ filled_alike numbers rows (OpReduce r) old new y column same h = h
 pub stays : (y : RowLoop) (batch : List ℕ) (rows : ℕ) (numbers : List (List ℕ)) (old new : List ℤ) (frame : List (List ℤ))
     → IsWhole y → ReadsAlike y batch rows old new → IsAside y batch rows numbers old frame → IsAside y batch rows numbers new frame
 stays y batch rows numbers old new frame whole alike h = record {
-  some = h.some;
   few = h.few;
   differ = h.differ;
   ways = h.ways;
@@ -34,7 +33,6 @@ stays y batch rows numbers old new frame whole alike h = record {
   apart = h.apart;
   begun = h.begun;
   long = h.long;
-  fits = h.fits;
   filled = λ c c_lt.
       filled_alike numbers rows (column_access y c) old new (column_at y c) (get_or h.begun c [])
       (λ l l_lt how. alike l (cells_of numbers (column_at y c) l) l_lt (c, c_lt, how, sym (where_looked_up y batch rows numbers whole h.looked c l c_lt l_lt)))

@@ -1,7 +1,8 @@
--- What a batch meets once its columns are filled.
+-- What a batch meets whose columns were filled and are put back.
 use Rattle.std.proofs.Common.{◌≡◌, ◌≢◌, ℕ, ℤ, pos, ◌+◌, ◌*◌, ◌<◌, ◌≤◌, ◌⊎◌, ⊎_elim, List, [], length, get_or, refl, sym, ap, ◌∙◌, subst, true, FitsSigned, w32, arith}
 use Rattle.std.specs.Prelude.{slice_index}
-use Rattle.op_num.specs.Access.{OpRead, OpWrite, OpRw}
+use Rattle.op_num.specs.Reduction.{Reduction}
+use Rattle.op_num.specs.Access.{OpRead, OpWrite, OpRw, OpReduce}
 use Rattle.kernel_model.specs.declared.types.views.frame.Place.{Place}
 use Rattle.kernel_model.specs.Obeys.{Mode}
 use Rattle.rank_state.specs.Windows.{first}
@@ -23,10 +24,9 @@ where_looked_up y batch rows numbers whole looked c l c_lt l_lt =
     let same : slice_index (get_or numbers (column_at y c).way []) l * d ≡ local_in (way_of y c) (slice_index batch l) * d = ap (λ n. n * d) e in
     omega (arith, same)
 
--- so many rows of a batch were looked up and filled, and do not meet
+-- so many rows of a batch were looked up and filled, and do not meet; the cells into which they reduce hold numbers of 32 bits
 pub record IsSetOut (y : RowLoop) (m : List ℤ) (modes : List Mode) (stand : ℕ → List Place) (batch : List ℕ) (numbers : List (List ℕ)) (frame : List (List ℤ)) : Type 0 where
   pub rows : ℕ
-  pub some : 0 < rows
   pub runs : RunsInRows y (length m) modes stand batch rows
   pub whole : IsWhole y
   pub leads : (l : ℕ) → l < rows → LeadsFrom y (length m) (slice_index batch l)
@@ -36,9 +36,8 @@ pub record IsSetOut (y : RowLoop) (m : List ℤ) (modes : List Mode) (stand : �
   pub filled : (c : ℕ) → c < length y.columns.now → IsFilled numbers rows m (column_in y.columns.now c) (get_or frame c [])
   pub firsts : (j l : ℕ) → j < length y.scalars.now → l < rows → at_row l (get_or frame (length y.columns.now + j) []) ≡ first y.variables.now (scalar_in y.scalars.now j)
   pub long : width y ≤ length frame
-  pub fits : (c l : ℕ) → FitsSigned w32 (at_row l (get_or frame c []))
-  pub memory_fits : (i : ℕ) → FitsSigned w32 (get_or m i (pos 0))
-  pub variables_fit : (i : ℕ) → FitsSigned w32 (get_or y.variables.now i (pos 0))
+  pub reduced : (r : Reduction) (c l : ℕ) → c < length y.columns.now → l < rows → column_access y c ≡ OpReduce r
+      → FitsSigned w32 (get_or m (column_cell y (slice_index batch l) c) (pos 0))
 
 module _ (y : RowLoop) (m : List ℤ) (modes : List Mode) (stand : ℕ → List Place) (batch : List ℕ) (numbers : List (List ℕ))
     (frame : List (List ℤ)) (h : IsSetOut y m modes stand batch numbers frame) where

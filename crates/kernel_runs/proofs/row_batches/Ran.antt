@@ -12,17 +12,19 @@ use Rattle.kernel_model.specs.Independence.{access, dim}
 use Rattle.rank_state.specs.declared.scalars.Scalar.{Scalar}
 use Rattle.rank_state.specs.declared.scalars.Scalar.TheVariants.{Value, Amount}
 use Rattle.rank_state.specs.Windows.{first, operation, amounts, Merges}
-use Rattle.kernel_columns.specs.Rows.{at_row, row}
+use Rattle.kernel_columns.specs.Rows.{at_row, row, RowsFit}
+use Rattle.kernel_columns.specs.PutBack.{GivesNumbers}
 use Rattle.kernel_columns.specs.PutOrder.{Change, column_put, put_by_columns, ColumnsArePut}
 use Rattle.kernel_columns.specs.Batch.{RunsRow, OneByOne, RowsApart}
 use Rattle.kernel_columns.specs.Batches.{AreColumns, BatchesRun}
 use Rattle.kernel_runs.specs.declared.row_batches.rows.RowLoop.{RowLoop}
 use Rattle.kernel_runs.specs.Filled.{cells_of}
-use Rattle.kernel_runs.specs.Put.{put_back_for, put_back, totals}
+use Rattle.kernel_runs.specs.Put.{AmountsFit, put_back_for, put_back, totals}
 use Rattle.kernel_runs.specs.RowLoops.{AllowsScalar, scalar_at, column_at, column_access, width, in_frame}
 use Rattle.kernel_runs.specs.RowsRun.{RowsRun}
+use Rattle.kernel_runs.proofs.row_batches.Accesses.{changing}
 use Rattle.kernel_runs.proofs.row_batches.Given.{IsSetOut, looked_up}
-use Rattle.kernel_runs.proofs.row_batches.Standing.{ft, mt, behind, mcell, Stands, stands, all_long, in_the_frame, in_the_memory, first_at, in_range, stands_for, rows_apart}
+use Rattle.kernel_runs.proofs.row_batches.Standing.{ft, mt, behind, fcol, mcell, Stands, stands, all_long, in_the_frame, in_the_memory, first_at, stands_for, rows_apart}
 use Rattle.kernel_runs.proofs.row_batches.Picks.{count, pick_of, counted, skipped}
 use Rattle.kernel_runs.proofs.row_batches.Moves.{modifies, change_by, mem, acc_column, mem_column, move, is_put, all_moves, most, inner, are_moves, are_columns}
 use Rattle.kernel_runs.proofs.row_batches.Merged.{rows_merged, totals_by_rows, amounts_agree}
@@ -31,6 +33,11 @@ use Rattle.kernel_runs.proofs.row_batches.Merged.{rows_merged, totals_by_rows, a
 reduces_from_unit : (variables : List ℤ) (x : Scalar) (own : Access) → AllowsScalar x own → own ≢ OpRead → (r : Reduction) × (own ≡ OpReduce r) × (first variables x ≡ unit_of r)
 reduces_from_unit variables (Value at) own a ne = absurd (ne a)
 reduces_from_unit variables (Amount at slot how) own a ne = (operation how, a, refl)
+
+-- a scalar that an argument may modify has amounts
+amounts_of : (rows : ℕ) (x : Scalar) (own : Access) (column : List ℤ) → AllowsScalar x own → own ≢ OpRead → AmountsFit rows x column → RowsFit rows column
+amounts_of rows (Value at) own column a ne fits = absurd (ne a)
+amounts_of rows (Amount at slot how) own column a ne fits = fits
 
 no_columns_put : (move : ℕ → ℕ → Change) (n : ℕ) (m : List ℤ) → put_by_columns move 0 n m ≡ m
 unfolding put_by_columns
@@ -93,7 +100,24 @@ module _ (y : RowLoop) (m : List ℤ) (modes : List Mode) (stand : ℕ → List 
   abbrev columns_behind : List (List ℤ)
   columns_behind = drop (length y.columns.now) after
 
-  module _ (laws : (r : Reduction) → IsCommuting (unit_of r) (merged r)) (long : width y ≤ length after) (fits : (c l : ℕ) → FitsSigned w32 (at_row l (get_or after c []))) where
+  module _ (laws : (r : Reduction) → IsCommuting (unit_of r) (merged r)) (long : width y ≤ length after)
+      (columns_fit : (c : ℕ) → c < length y.columns.now → column_access y c ≢ OpRead → RowsFit h.rows (get_or after c []))
+      (amounts_fit : (j : ℕ) → j < length y.scalars.now → AmountsFit h.rows (scalar_at y j) (get_or after (length y.columns.now + j) [])) where
+    -- what a row's frame gives
+    gives : (l : ℕ) → l < h.rows → GivesNumbers modes (ft y m modes stand batch numbers frame h) (row l after)
+    gives l l_lt a i i_lt ne =
+        subst (FitsSigned w32) (sym (in_the_frame y m modes stand batch numbers frame h after l a i))
+        (by (stands y m modes stand batch numbers frame h l a i l_lt i_lt))
+      where
+        by : Stands y m modes stand batch numbers frame h l a i → FitsSigned w32 (at_row l (get_or after (fcol y m modes stand batch numbers frame h a i) []))
+        by (inl d) =
+            let c = fcol y m modes stand batch numbers frame h a i in
+            columns_fit c d.few (changing (column_access y c) (access modes a) d.allows ne) l l_lt
+        by (inr v) =
+            let column = get_or after (length y.columns.now + v.number) [] in
+            subst (λ c. FitsSigned w32 (at_row l (get_or after c []))) (sym v.column)
+            (amounts_of h.rows (scalar_at y v.number) (access modes a) column v.allows ne (amounts_fit v.number v.few) l l_lt)
+
     abbrev Row : ℕ → List ℤ → List ℤ → Type 0
     Row l between new =
         RunsRow y.code.now.kernel.now modes y.constants.now (ft y m modes stand batch numbers frame h)
@@ -114,13 +138,15 @@ module _ (y : RowLoop) (m : List ℤ) (modes : List Mode) (stand : ℕ → List 
             let e : v.number ≡ j = omega (arith, v.column, here) in
             let r = reduces_from_unit y.variables.now (scalar_at y v.number) (access modes a) v.allows ne in
             let x : ℤ = at_row l (get_or after (length y.columns.now + j) []) in
+            let fits : FitsSigned w32 x = subst (λ n. FitsSigned w32 (at_row l (get_or after (length y.columns.now + n) []))) e
+            (amounts_of h.rows (scalar_at y v.number) (access modes a) (get_or after (length y.columns.now + v.number) []) v.allows ne (amounts_fit v.number v.few) l l_lt) in
             let place : mcell y m modes stand batch numbers frame h l a i ≡ length between + v.number = omega (arith, v.cell, size) in
             let old : get_or (between ++ behind y m modes stand batch numbers frame h) (length between + v.number) (pos 0) ≡ unit_of r.0 =
             get_or-append-add between (behind y m modes stand batch numbers frame h) v.number (pos 0) ∙ first_at y.variables.now y.scalars.now v.number v.few ∙ r.2 in
             let value = in_the_frame y m modes stand batch numbers frame h after l a i ∙ ap (λ c. at_row l (get_or after c [])) here in
             get_or-map (at_row l) columns_behind j []
             ∙ ap (at_row l) (get_or-drop (length y.columns.now) after j [])
-            ∙ sym ((laws r.0).keeps x (fits (length y.columns.now + j) l))
+            ∙ sym ((laws r.0).keeps x fits)
             ∙ sym (get_or-drop (length between) one.after j (pos 0)
             ∙ ap (λ k. get_or one.after (length between + k) (pos 0)) (sym e)
             ∙ ap (λ k. get_or one.after k (pos 0)) (sym place)
@@ -179,7 +205,6 @@ module _ (y : RowLoop) (m : List ℤ) (modes : List Mode) (stand : ℕ → List 
         )
 
     module _ (batches : BatchesRun) (columns : ColumnsArePut) (resolved : IsResolved (length y.constants.now) y.code.now.kernel.now)
-        (consts_fit : (j : ℕ) → FitsSigned w32 (get_or y.constants.now j (pos 0)))
         (ran : (l : ℕ) → l < h.rows → kernel_meaning (ft y m modes stand batch numbers frame h) y.constants.now y.code.now.kernel.now
         (row l frame ∷ []) ≡ Finished (row l after ∷ [])) where
       abbrev put_as : ℕ → List ℤ
@@ -191,11 +216,11 @@ module _ (y : RowLoop) (m : List ℤ) (modes : List Mode) (stand : ℕ → List 
           batches y.code.now.kernel.now modes y.constants.now (ft y m modes stand batch numbers frame h)
           (behind y m modes stand batch numbers frame h) (mt y m modes stand batch numbers frame h) (λ l. row l frame)
           (λ l. row l after) n m moves (inner y m modes stand batch numbers frame h after)
-          (most y m modes stand batch numbers frame h after) resolved h.runs.obeys consts_fit
-          (in_range y m modes stand batch numbers frame h)
+          (most y m modes stand batch numbers frame h after) resolved h.runs.obeys
           (subst (λ k. RowsApart modes (mt y m modes stand batch numbers frame h) k (length m)) (sym e) (rows_apart y m modes stand batch numbers frame h))
-          (λ l lt. stands_for y m modes stand batch numbers frame h l (omega (arith, lt, e)))
+          (λ l lt. stands_for y m modes stand batch numbers frame h laws l (omega (arith, lt, e)))
           (λ l lt. ran l (omega (arith, lt, e)))
+          (λ l lt. gives l (omega (arith, lt, e)))
           (λ l lt. are_moves y m modes stand batch numbers frame h after l (omega (arith, lt, e)))
           (subst (λ k. AreColumns moves (inner y m modes stand batch numbers frame h after)
           (most y m modes stand batch numbers frame h after) k (length m)) (sym e)

@@ -1,16 +1,16 @@
 -- The frames of a batch stand for the memory.
-use Rattle.std.proofs.Common.{◌≡◌, ◌≢◌, ℕ, zero, suc, ℤ, pos, ◌+◌, ◌-◌, ◌<◌, ◌≤◌, ◌⊎◌, inl, inr, ⊎_elim, List, [], ◌∷◌, ◌++◌, length, map, get_or, refl, sym, ap, ◌∙◌, subst, FitsSigned, w32, arith, length-append}
+use Rattle.std.proofs.Common.{◌≡◌, ◌≢◌, ℕ, zero, suc, ℤ, pos, ◌+◌, ◌<◌, ◌⊎◌, inl, inr, ⊎_elim, List, [], ◌∷◌, ◌++◌, length, map, get_or, refl, sym, ap, ◌∙◌, subst, FitsSigned, w32, arith, length-append}
 use Rattle.std.specs.Prelude.{slice_index}
 use Rattle.std.proofs.Math.ListN.{get_or-map, get_or-append, length-map}
 use Rattle.std.proofs.lemmas.List.{get_or-append-add}
-use Rattle.std.proofs.lemmas.Bool.{cases_lt, cases_eq, eqb-true}
-use Rattle.op_num.specs.Reduction.{Reduction, unit_of}
+use Rattle.std.proofs.lemmas.Bool.{cases_eq, eqb-true}
+use Rattle.op_num.specs.Reduction.{Reduction, unit_of, merged, IsCommuting}
 use Rattle.op_num.specs.Access.{Access, OpRead, OpWrite, OpRw, OpReduce}
 use Rattle.kernel_model.specs.declared.types.views.frame.Place.{Place}
 use Rattle.kernel_model.specs.Framed.{target_of}
-use Rattle.kernel_model.specs.Meaning.{Target, target_at, read_arg}
+use Rattle.kernel_model.specs.Meaning.{Target, read_arg}
 use Rattle.kernel_model.specs.Obeys.{Mode}
-use Rattle.kernel_model.specs.Independence.{access, dim, SameStoredAliases, Alone, InRange}
+use Rattle.kernel_model.specs.Independence.{access, dim, SameStoredAliases, Alone}
 use Rattle.rank_state.specs.declared.scalars.Scalar.{Scalar}
 use Rattle.rank_state.specs.declared.scalars.Scalar.TheVariants.{Value, Amount}
 use Rattle.rank_state.specs.Windows.{first, firsts, operation}
@@ -101,31 +101,6 @@ module _ (y : RowLoop) (m : List ℤ) (modes : List Mode) (stand : ℕ → List 
   pub in_the_memory : (cells : List ℤ) (l a i : ℕ) → read_arg (mt l) (cells ∷ []) a i ≡ get_or cells (mcell l a i) (pos 0)
   in_the_memory cells l a i = read_first (mt l) (no_array (stand (x_of l))) (cells ∷ []) a i
 
-  first_fits : (j : ℕ) → FitsSigned w32 (get_or behind j (pos 0))
-  first_fits j = ⊎_elim
-      (λ (lt : j < length y.scalars.now). subst (FitsSigned w32) (sym (first_at y.variables.now y.scalars.now j lt))
-      (subst (FitsSigned w32) (h.firsts j 0 lt h.some) (h.fits (length y.columns.now + j) 0)))
-      (λ (le : length y.scalars.now ≤ j). past behind j (omega (arith, le, firsts_length y.variables.now y.scalars.now)))
-      (cases_lt j (length y.scalars.now))
-    where
-      past : (xs : List ℤ) (j : ℕ) → length xs ≤ j → FitsSigned w32 (get_or xs j (pos 0))
-      past [] j le = subst (FitsSigned w32) refl (search arith)
-      past (x ∷ xs) zero le = absurd (omega arith)
-      past (x ∷ xs) (suc j) le = past xs j (omega arith)
-
-  pub in_range : InRange ((m ++ behind) ∷ [])
-  in_range zero j = ⊎_elim
-      (λ (lt : j < length m). subst (FitsSigned w32) (sym (get_or-append m behind (pos 0) j lt)) (h.memory_fits j))
-      (λ (le : length m ≤ j).
-      let k = j - length m in
-      let e : length m + k ≡ j = omega arith in
-      subst (λ n. FitsSigned w32 (get_or (m ++ behind) n (pos 0))) e (subst (FitsSigned w32) (sym (get_or-append-add m behind k (pos 0))) (first_fits k)))
-      (cases_lt j (length m))
-  in_range (suc x) j = nothing x j
-    where
-      nothing : (x j : ℕ) → FitsSigned w32 (get_or (get_or [] x []) j (pos 0))
-      nothing x j = search arith
-
   -- ---- one cell in the frame is one in the memory
 
   same_stand : (l a i b j : ℕ) → Stands l a i → Stands l b j → fcol a i ≡ fcol b j → mcell l a i ≡ mcell l b j
@@ -200,15 +175,30 @@ module _ (y : RowLoop) (m : List ℤ) (modes : List Mode) (stand : ℕ → List 
       alone_at r l a i b j by (stands l a i l_lt i_lt) (stands l b j l_lt j_lt)
       (eqb-true (fcol b j) (fcol a i) (sym (one_array ft (no_array y.places.now) b j a i) ∙ same))
 
-  pub stands_for : (l : ℕ) → l < h.rows → StandsFor modes ft (mt l) (row l frame) (m ++ behind)
-  stands_for l l_lt = record {
+  -- a cell into which the row reduces
+  reduced_fits : ((r : Reduction) → IsCommuting (unit_of r) (merged r)) → (r : Reduction) (l a i : ℕ) → l < h.rows → access modes a ≡ OpReduce r
+      → Stands l a i → FitsSigned w32 (get_or (m ++ behind) (mcell l a i) (pos 0))
+  reduced_fits laws r l a i l_lt by (inl d) =
+      let lt : mcell l a i < length m = omega (arith, inside l (fcol a i) l_lt d.few, d.cell) in
+      subst (FitsSigned w32) (ap (λ k. get_or m k (pos 0)) (sym d.cell) ∙ sym (get_or-append m behind (pos 0) (mcell l a i) lt))
+      (h.reduced r (fcol a i) l d.few l_lt (reducing (column_access y (fcol a i)) (access modes a) r d.allows by))
+  reduced_fits laws r l a i l_lt by (inr v) =
+      subst (FitsSigned w32)
+      (sym (ap (λ k. get_or (m ++ behind) k (pos 0)) v.cell
+      ∙ get_or-append-add m behind v.number (pos 0)
+      ∙ first_at y.variables.now y.scalars.now v.number v.few
+      ∙ amount_first y.variables.now (scalar_at y v.number) (access modes a) r v.allows by))
+      (laws r).unit_fits
+
+  pub stands_for : ((r : Reduction) → IsCommuting (unit_of r) (merged r)) → (l : ℕ) → l < h.rows → StandsFor modes ft (mt l) (row l frame) (m ++ behind)
+  stands_for laws l l_lt = record {
     suits_frame = record {
       counts = h.runs.frame_counts;
       arrays = λ a i lt. subst (λ x. x < 1) (sym (no_array y.places.now a)) (omega arith);
       cells = λ a i lt.
           subst (λ x. fcol a i < length (get_or (row l frame ∷ []) x [])) (sym (no_array y.places.now a))
           (subst (λ n. fcol a i < n) (sym (length-map frame (at_row l))) (frame_lt l a i (stands l a i l_lt lt)));
-      numbers = λ a i lt. subst (FitsSigned w32) (sym (in_the_frame frame l a i)) (h.fits (fcol a i) l);
+      numbers = λ r a i lt by. subst (FitsSigned w32) (sym (in_the_frame frame l a i ∙ unit r l a i l_lt by (stands l a i l_lt lt))) (laws r).unit_fits;
     };
     suits_memory = record {
       counts = λ a. h.runs.counts l a l_lt;
@@ -216,7 +206,7 @@ module _ (y : RowLoop) (m : List ℤ) (modes : List Mode) (stand : ℕ → List 
       cells = λ a i lt.
           subst (λ x. mcell l a i < length (get_or ((m ++ behind) ∷ []) x [])) (sym (no_array (stand (x_of l)) a))
           (memory_lt l a i l_lt (stands l a i l_lt lt));
-      numbers = λ a i lt. in_range (target_at (mt l) a).array (mcell l a i);
+      numbers = λ r a i lt by. subst (FitsSigned w32) (sym (in_the_memory (m ++ behind) l a i)) (reduced_fits laws r l a i l_lt by (stands l a i l_lt lt));
     };
     aliases = aliases l l_lt;
     inputs = λ a i lt how. in_the_frame frame l a i ∙ input l a i l_lt how (stands l a i l_lt lt) ∙ sym (in_the_memory (m ++ behind) l a i);

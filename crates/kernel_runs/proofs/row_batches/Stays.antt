@@ -9,14 +9,14 @@ use Rattle.kernel_runs.specs.Filled.{cells_of}
 use Rattle.kernel_runs.specs.Put.{put_back_for, put_back}
 use Rattle.kernel_runs.specs.RowLoops.{column_in}
 
-stored_stays : (stands : ℕ → ℕ) (column : List ℤ) (n : ℕ) (m : List ℤ) (k : ℕ) → ((l : ℕ) → l < n → stands l ≢ k) → get_or (stored stands column n m) k (pos 0) ≡ get_or m k (pos 0)
+pub stored_stays : (stands : ℕ → ℕ) (column : List ℤ) (n : ℕ) (m : List ℤ) (k : ℕ) → ((l : ℕ) → l < n → stands l ≢ k) → get_or (stored stands column n m) k (pos 0) ≡ get_or m k (pos 0)
 unfolding stored
 stored_stays stands column zero m k off = refl
 stored_stays stands column (suc n) m k off =
     get_or-set_other (stored stands column n m) (stands n) k (at_row n column) (pos 0) (λ e. off n (omega arith) (sym e))
     ∙ stored_stays stands column n m k (λ l lt. off l (omega (arith, lt)))
 
-merged_stays : (stands : ℕ → ℕ) (column : List ℤ) (r : Reduction) (n : ℕ) (m : List ℤ) (k : ℕ) → ((l : ℕ) → l < n → stands l ≢ k)
+pub merged_stays : (stands : ℕ → ℕ) (column : List ℤ) (r : Reduction) (n : ℕ) (m : List ℤ) (k : ℕ) → ((l : ℕ) → l < n → stands l ≢ k)
     → get_or (merged_in stands column r n m) k (pos 0) ≡ get_or m k (pos 0)
 unfolding merged_in
 merged_stays stands column r zero m k off = refl

@@ -18,7 +18,6 @@ ghost use Rattle.kernel_runs.specs.Asides.{IsAside, LeavesOthers};
 use crate::row_batches::filling::{fill_columns, fill_scalars};
 use crate::row_batches::meeting::{rows_before_meeting, rows_that_differ};
 use crate::row_batches::putting::{merge_scalars, put_columns};
-use crate::row_batches::ranges::{cells_fit, columns_fit};
 use crate::row_batches::rows::{RowLoop, RowRoom};
 use crate::row_batches::ways::put_all_numbers;
 use kernel_columns::{Column, Numbers, ROWS, run_rows};
@@ -40,7 +39,6 @@ fn run_looked_up(
     requires resolved { IsResolved (length rows.now.constants.now) rows.now.code.now.kernel.now }
     requires params { length rows.now.places.now ≡ rows.now.code.now.kernel.now.params }
     requires fits { PlacesIn (width rows.now) rows.now.places.now }
-    requires some { 0 < count }
     requires few { count ≤ ROWS }
     requires ways { length rows.now.ways.now ≤ length numbers.now }
     requires stand { ColumnsStand numbers.now count (length memory.now) rows.now.columns.now }
@@ -58,7 +56,6 @@ fn run_looked_up(
     let cells = &mut frame[..inner + rows.scalars.len()];
     fill_columns(rows.columns, numbers, memory, cells, count);
     fill_scalars(rows.scalars, rows.variables, inner, cells, count);
-    columns_fit(cells);
     let ran = run_rows(
         rows.code,
         cells,
@@ -165,10 +162,6 @@ pub fn put_aside(
     op_num::reductions::reductions_commute();
     let inner = rows.columns.len();
     let cells = &room.frame[..inner + rows.scalars.len()];
-    cells_fit(memory);
-    cells_fit(rows.variables);
-    cells_fit(rows.constants);
-    columns_fit(cells);
     put_columns(rows.columns, &room.numbers, cells, count, memory);
     merge_scalars(rows.scalars, cells, inner, count, partials);
 }

@@ -1,10 +1,12 @@
 // Columns that are put back, in the first rows: stored or merged into the memory, and merged into the partials.
 
-ghost use Rattle.std.specs.Prelude.{◌≡◌, ◌≤◌, ◌+◌, length, drop};
+ghost use Rattle.std.specs.Prelude.{◌≡◌, ◌<◌, ◌≤◌, ◌+◌, ℕ, [], length, drop, get_or};
 ghost use Rattle.kernel_columns.specs.declared.columns.TheConstants.{ROWS};
+ghost use Rattle.kernel_columns.specs.Rows.{RowsFit};
 ghost use Rattle.rank_state.specs.Windows.{InSlots, Merges};
 ghost use Rattle.kernel_runs.specs.Filled.{ColumnStands, ColumnsStand};
-ghost use Rattle.kernel_runs.specs.Put.{column_put_back, put_back, total_of, total_put, totals};
+ghost use Rattle.kernel_runs.specs.RowLoops.{scalar_in};
+ghost use Rattle.kernel_runs.specs.Put.{NumbersPut, AllNumbersPut, AmountsFit, column_put_back, put_back, total_of, total_put, totals};
 
 use crate::row_batches::rows::RowColumn;
 use kernel_columns::{Column, Numbers, merge, merge_all, store};
@@ -21,7 +23,8 @@ fn put_column(
 )
     requires stand { ColumnStands numbers.now rows (length memory.old) column.now }
     requires few { rows ≤ ROWS }
-    ensures { memory.new ≡ column_put_back numbers.now rows column.now cells.now memory.old }
+    ensures memory { memory.new ≡ column_put_back numbers.now rows column.now cells.now memory.old }
+    ensures numbers { NumbersPut numbers.now rows column.now cells.now memory.old }
 {
     match column.access {
         Access::Read => {}
@@ -64,7 +67,8 @@ fn put_column(
     }
 }
 
-/// Puts back the columns of the dats' components in the first rows, at most 64, one column after another.
+/// Puts back the columns of the dats' components in the first rows, at most 64, one column after another. The numbers
+/// that it reads are of 32 bits: those of the columns, and those into which it merges.
 pub fn put_columns(
     columns: &[RowColumn],
     numbers: &[Numbers],
@@ -75,7 +79,8 @@ pub fn put_columns(
     requires stand { ColumnsStand numbers.now rows (length memory.old) columns.now }
     requires room { length columns.now ≤ length frame.now }
     requires few { rows ≤ ROWS }
-    ensures { memory.new ≡ put_back numbers.now rows columns.now frame.now (length columns.now) memory.old }
+    ensures memory { memory.new ≡ put_back numbers.now rows columns.now frame.now (length columns.now) memory.old }
+    ensures numbers { AllNumbersPut numbers.now rows columns.now frame.now (length columns.now) memory.old }
 {
     for (c, column) in columns.iter().enumerate() {
         put_column(column, numbers, &frame[c], rows, memory);
@@ -85,7 +90,8 @@ pub fn put_columns(
 // The amounts of the first rows, merged into a number.
 fn total(how: Operation, number: i32, cells: &Column, rows: usize) -> i32
     requires { rows ≤ ROWS }
-    ensures { result ≡ total_of rows how cells.now number }
+    ensures total { result ≡ total_of rows how cells.now number }
+    ensures numbers { RowsFit rows cells.now }
 {
     match how {
         Operation::Sum => merge_all::<Sum>(number, cells, rows),
@@ -98,7 +104,8 @@ fn total(how: Operation, number: i32, cells: &Column, rows: usize) -> i32
 fn merge_scalar(scalar: Scalar, cells: &Column, rows: usize, partials: &mut [i32])
     requires inside { InSlots (length partials.old) scalar }
     requires few { rows ≤ ROWS }
-    ensures { partials.new ≡ total_put rows scalar cells.now partials.old }
+    ensures partials { partials.new ≡ total_put rows scalar cells.now partials.old }
+    ensures numbers { AmountsFit rows scalar cells.now }
 {
     if let Scalar::Amount { slot, how, .. } = scalar {
         partials[slot] = total(how, partials[slot], cells, rows);
@@ -106,7 +113,7 @@ fn merge_scalar(scalar: Scalar, cells: &Column, rows: usize, partials: &mut [i32
 }
 
 /// Merges the amounts of the first rows, at most 64, into the partials. The columns of the scalars stand behind so many
-/// others.
+/// others. The amounts are numbers of 32 bits.
 pub fn merge_scalars(
     scalars: &[Scalar],
     frame: &[Column],
@@ -117,7 +124,9 @@ pub fn merge_scalars(
     requires inside { Merges (length partials.old) scalars.now }
     requires room { from + length scalars.now ≤ length frame.now }
     requires few { rows ≤ ROWS }
-    ensures { partials.new ≡ totals rows scalars.now (drop from frame.now) partials.old }
+    ensures partials { partials.new ≡ totals rows scalars.now (drop from frame.now) partials.old }
+    ensures numbers { (j : ℕ) → j < length scalars.now
+        → AmountsFit rows (scalar_in scalars.now j) (get_or frame.now (from + j) []) }
 {
     for (j, scalar) in scalars.iter().enumerate() {
         merge_scalar(*scalar, &frame[from + j], rows, partials);

@@ -30,7 +30,6 @@ returns c is batch differ looked =
     let all = length-append left rest in
     let ran = held c.run_rows-ran.result c.run_rows-ran.ensures (sym c.is_some.ensures ∙ is) in
     record {
-      some = c.requires.some;
       few = c.requires.few;
       differ = differ;
       ways = c.requires.ways;
@@ -38,7 +37,6 @@ returns c is batch differ looked =
       apart = c.requires.apart;
       begun = begun;
       long = omega (arith, begun_long);
-      fits = c.columns_fit.ensures;
       filled = λ k lt. subst (IsFilled c.args.numbers.now c.args.count c.args.memory.now (column_in y.columns.now k)) (sym (c.fill_scalars.ensures.kept k lt)) (c.fill_columns.ensures k lt);
       firsts = c.fill_scalars.ensures.filled;
       wide = omega (arith, all, left_long);
