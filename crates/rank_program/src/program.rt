@@ -1,15 +1,16 @@
 // A bound program, distributed and planned.
 
-ghost use Rattle.std.specs.Prelude.{◌≡◌, true, IfOk};
+ghost use Rattle.std.specs.Prelude.{◌≡◌, ◌<◌, ◌^◌, map, length, true, IfOk, OnOk};
 ghost use Rattle.kernel_code.specs.Codes.{AreCodesOf};
-ghost use Rattle.bound_program.specs.Values.{bound_of};
+ghost use Rattle.bound_program.specs.Values.{bound_of, var_of};
 ghost use Rattle.run_model.specs.Ranges.{AllObey};
 ghost use Rattle.run_model.specs.Variables.{VarsBegin};
 ghost use Rattle.rank_state.specs.Starting.{AreSlots, ArePlaces};
+ghost use Rattle.rank_layout.specs.First.{first_variables};
 ghost use Rattle.rank_program.specs.Sound.{Sound, program_in, setup_in, layout_in, tables_in};
 ghost use Rattle.rank_program.specs.Runnables.{HasLocalLists, IsProgramOf};
 
-use bound_program::Bound;
+use bound_program::{Bound, Var};
 use kernel_code::{Code, room_for};
 use local_mesh::{LocalLists, RankMesh};
 use loop_plan::Plan;
@@ -17,12 +18,24 @@ use loop_plan::planned_program::Planned;
 use mesh_decl::Owners;
 use op_num::OutOfMemory;
 use rank_layout::{
-    MachineTables, element_windows_stand, exports_are_few, first_cells_stand, first_variables,
-    most_spans, places_stand, rooms_stand, slots_stand, steps_stand, tables_are_indexed,
-    variables_stand,
+    MachineTables, element_windows_stand, exports_are_few, first_cells_stand, most_spans,
+    places_stand, rooms_stand, slots_stand, steps_stand, tables_are_indexed, variables_stand,
 };
 use rank_state::Operation;
-use std::alloc::Global;
+use std::alloc::{AllocError, Global};
+
+// Counts the cells of all variables. An error says that 64 bits are too few for it; no memory has so many.
+fn count_cells(vars: &[Var]) -> Result<(), OutOfMemory>
+    ensures { OnOk result (length (first_variables (map var_of vars.now)) < 2 ^ 64) }
+{
+    let mut count: usize = 0;
+    for var in vars {
+        count = count
+            .checked_add(var.start.as_slice().len())
+            .ok_or(AllocError)?;
+    }
+    Ok(())
+}
 
 /// A bound program with its distribution over several ranks and its plan.
 #[derive(Drop)]
@@ -77,8 +90,7 @@ impl<'a> DistributedProgram<'a> {
         let (bound, plan) = (planned.bound, &planned.plan);
         let owners = &planned.distribution.owners;
         let meshes = planned.distribution.ranks.as_slice();
-        // That one vector has them all says that 64 bits count the variables' cells.
-        let _variables = first_variables(alloc, &bound.vars)?;
+        count_cells(&bound.vars)?;
         let spans = most_spans(bound, lists, owners.ranks);
         let tables = MachineTables::new(alloc, bound, owners, plan, spans)?;
         Ok(DistributedProgram {

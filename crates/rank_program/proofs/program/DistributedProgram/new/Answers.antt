@@ -1,4 +1,4 @@
-use Rattle.std.proofs.Common.{◌≡◌, length, map, ap, sym, subst, ◌∙◌, arith}
+use Rattle.std.proofs.Common.{◌≡◌, ◌<◌, ◌^◌, length, map, ap, sym, subst, ◌∙◌, arith}
 use Rattle.kernel_code.specs.Codes.{AreCodesOf}
 use Rattle.bound_program.specs.Values.{bound_of, var_of}
 use Rattle.run_model.specs.Ranges.{AllObey}
@@ -54,8 +54,7 @@ new-requires-clause-few c =
     let p = c.planned.inside in
     let v : PlannedValue = record { bound = p.bound.now; distribution = p.distribution; plan = plan_of p.plan } in
     let lists = has_lists v c.args.planned.now c.as_slice-meshes.result.now c.args.lists.now c.planned.view_is c.as_slice-meshes.ensures.value c.planned.invariant c.requires.lists in
-    let vs = c.in_ok-_variables._variables in
     let first = c.first_cells_stand.ensures.stand (bound_of v.bound) v.distribution.owners c.planned.invariant.numbers c.as_slice-meshes.result.now v.plan lists.planned in
-    let items : length vs.items ≡ length (first_variables (bound_of v.bound).vars) =
-    ap length (c.in_ok-_variables.ensures ∙ ap (λ l. first_variables (map var_of l)) c.deref.ensures.value) in
-    omega (arith, items, first.count, vs.ok.0, vs.small)
+    let few : length (first_variables (bound_of v.bound).vars) < 2 ^ 64 =
+    subst (λ l. length (first_variables (map var_of l)) < 2 ^ 64) c.deref.ensures.value c.in_ok-count_cells.ensures in
+    omega (arith, first.count, few)
