@@ -22,6 +22,7 @@ mod ExpressionValues
 mod DeclaredValues
 mod UnrolledValues
 mod FirstValues
+mod StateValues
 mod Exist
 mod Complete
 mod OtherRefusals

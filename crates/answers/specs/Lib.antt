@@ -5,3 +5,4 @@ pub mod Laws
 pub mod Endings
 pub mod Restarts
 pub mod OnCells
+pub mod FirstValues

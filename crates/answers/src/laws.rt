@@ -3,7 +3,8 @@
 mod laws;
 
 pub use laws::{
-    answers_agree, answers_exist, calls_are_complete, calls_report_their_answers,
-    calls_show_their_answers, others_write_nothing, restarts_are_whole, runs_answer_on_cells,
-    unread_files_are_named, usage_is_of_words,
+    answers_agree, answers_exist, bound_programs_start_in_range, calls_are_complete,
+    calls_report_their_answers, calls_show_their_answers, chosen_programs_start_in_range,
+    others_write_nothing, restarts_are_whole, runs_answer_on_cells, unread_files_are_named,
+    usage_is_of_words,
 };

@@ -75,7 +75,7 @@ fits : (z : ℤ) → fits_i32 z ≡ true → Num z
 fits (pos n) h = let l : n < 2 ^ 31 = grind (arith, nat_tests) in record { sfits = omega arith }
 fits (negsuc n) h = let l : n < 2 ^ 31 = grind (arith, nat_tests) in record { sfits = omega arith }
 
-judged : (y : Option ℤ) (z : ℤ) → i32_judged y ≡ Ok z → Num z
+pub judged : (y : Option ℤ) (z : ℤ) → i32_judged y ≡ Ok z → Num z
 judged None z e = cc
 judged (Some y) z e = by (fits_i32 y) refl e
   where

@@ -5,6 +5,7 @@ ghost use Rattle.answers.specs.Endings.{Call, Ends, IsComplete, IsUsage, IsUnrea
 ghost use Rattle.answers.specs.Laws.{AnswersAgree, AnswersExist};
 ghost use Rattle.answers.specs.Restarts.{RestartsAreWhole};
 ghost use Rattle.answers.specs.OnCells.{RunsAnswerOnCells};
+ghost use Rattle.answers.specs.FirstValues.{BoundProgramsStartInRange, ChosenProgramsStartInRange};
 
 /// A law: for a program that fits, what its run on whole arrays answers is what the run that the theorem on schedules
 /// is about prints, with its first fault, or with the dump behind it.
@@ -13,6 +14,18 @@ pub fn runs_answer_on_cells()
 {
     run_model::sequential_run::runs_are_one();
 }
+
+/// A law: the values that a bound program begins with are numbers of 32 bits, where its source was read and its entries
+/// are those of a mesh text.
+pub fn bound_programs_start_in_range()
+    ensures { BoundProgramsStartInRange }
+{}
+
+/// A law: so are those of a program's head before an item, and those of its tail from a state on that a text tells,
+/// where the program's are.
+pub fn chosen_programs_start_in_range()
+    ensures { ChosenProgramsStartInRange }
+{}
 
 /// A law: any two answers to the same words over the same files have the same status and the same bytes for the output,
 /// and the same line, unless the source has tokens and no tree.
