@@ -6,6 +6,7 @@ ghost use Rattle.mesh_decl.specs.Spelling.{Spells};
 ghost use Rattle.mesh_decl.specs.declared.text.entry.TheConstants.{MESH_BYTES};
 ghost use Rattle.bound_program.specs.Values as values;
 ghost use Rattle.bound_program.specs.Fits.{Fits};
+ghost use Rattle.run_model.specs.Ranges.{StartsInRange};
 ghost use Rattle.command_words.specs.Refusal as answer;
 ghost use Rattle.answers.specs.Judgements.{EntriesAre, BoundIs};
 ghost use Rattle.answers.specs.Said as said;
@@ -14,6 +15,7 @@ ghost use Rattle.command_words.specs.Halts.{limit_of as limit_in, StopsWhere};
 ghost use Rattle.job_inputs.specs.Inputs.{IsJudged, HasNarrowMaps};
 ghost use Rattle.job_inputs.specs.Maps.{map_by};
 
+use answers::laws::bound_programs_start_in_range;
 use bound_program::Bound;
 use bound_program::refusals::{BindRefusal, Counted};
 use c_tree::{Host, OpCall, Pos, Program};
@@ -74,11 +76,13 @@ pub fn bound_of<'a>(
     ensures ok { IfOk result (λ b. BoundIs (program_of program.now) resolved entries.now.entries (Ok (values.bound_of b))) }
     ensures fits { IfOk result (λ b. Fits (values.bound_of b)) }
     ensures narrow { IfOk result (λ b. HasNarrowMaps (values.bound_of b)) }
+    ensures start { IfOk result (λ b. StartsInRange (values.bound_of b)) }
     ensures err { IfErr result (StopsWhere (λ r. BoundIs (program_of program.now) resolved entries.now.entries (Err r))) }
 {
     resolved_sources_are();
     spelled_entries_fit();
     bound_maps_are_narrow();
+    bound_programs_start_in_range();
     match bind(alloc, program, resolved, entries) {
         Ok(bound) => Ok(bound),
         Err(refusal) => Err(unbound(alloc, program, refusal)),

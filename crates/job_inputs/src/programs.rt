@@ -7,6 +7,7 @@ ghost use Rattle.c_tree.specs.View.{program_of};
 ghost use Rattle.mesh_decl.specs.declared.text.entry.TheConstants.{MESH_BYTES};
 ghost use Rattle.bound_program.specs.Values as values;
 ghost use Rattle.bound_program.specs.Fits.{Fits};
+ghost use Rattle.run_model.specs.Ranges.{StartsInRange};
 ghost use Rattle.command_words.specs.Lines.{refused};
 ghost use Rattle.command_words.specs.Words.{InFiles, OfSample, names_from};
 ghost use Rattle.answers.specs.Judgements.{AccessesAre};
@@ -43,6 +44,7 @@ pub fn bound_over<'a>(
     ensures obeyed { IfOk result (λ b. AccessesAre (values.bound_of b) (Ok tt)) }
     ensures fits { IfOk result (λ b. Fits (values.bound_of b)) }
     ensures narrow { IfOk result (λ b. HasNarrowMaps (values.bound_of b)) }
+    ensures start { IfOk result (λ b. StartsInRange (values.bound_of b)) }
     ensures err { IfErr result (StopsWhere (λ r. TextOver Never (program_of program.now) types text.now (refused r))) }
 {
     let entries = entries_of(alloc, text)?;
@@ -71,6 +73,7 @@ fn bound_files<'a, F: Shelf>(
     ensures obeyed { IfOk result (λ b. AccessesAre (values.bound_of b) (Ok tt)) }
     ensures fits { IfOk result (λ b. Fits (values.bound_of b)) }
     ensures narrow { IfOk result (λ b. HasNarrowMaps (values.bound_of b)) }
+    ensures start { IfOk result (λ b. StartsInRange (values.bound_of b)) }
     ensures err { IfErr result (HaltsOver (F.told shelf.old) kept.old
         (λ files r. BoundAnswers Never (InFiles source.now mesh.now) files (refused r)) (Rose (F.faults shelf.old) (F.faults shelf.new))) }
 {
@@ -87,6 +90,7 @@ fn bound_sample<'a>(alloc: Global, side: Side) -> Result<Bound, Halt<'a>>
     ensures obeyed { IfOk result (λ b. AccessesAre (values.bound_of b) (Ok tt)) }
     ensures fits { IfOk result (λ b. Fits (values.bound_of b)) }
     ensures narrow { IfOk result (λ b. HasNarrowMaps (values.bound_of b)) }
+    ensures start { IfOk result (λ b. StartsInRange (values.bound_of b)) }
     ensures err { IfErr result (StopsWhere (λ r. (files : Files) → BoundAnswers Never (OfSample side.cells) files (refused r))) }
 {
     let texts = match sample(alloc, side.cells) {
@@ -121,6 +125,7 @@ pub fn bound_input<'a, F: Shelf>(
     ensures obeyed { IfOk result (λ b. AccessesAre (values.bound_of b) (Ok tt)) }
     ensures fits { IfOk result (λ b. Fits (values.bound_of b)) }
     ensures narrow { IfOk result (λ b. HasNarrowMaps (values.bound_of b)) }
+    ensures start { IfOk result (λ b. StartsInRange (values.bound_of b)) }
     ensures err { IfErr result (HaltsOver (F.told shelf.old) kept.old
         (λ files r. BoundAnswers Never (input_in input.entry) files (refused r)) (Rose (F.faults shelf.old) (F.faults shelf.new))) }
 {

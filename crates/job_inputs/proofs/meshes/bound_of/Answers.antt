@@ -12,3 +12,11 @@ returns-in-Ok-clause-narrow c =
     (c.resolved_sources_are.ensures judged.source _ _ judged.reads judged.resolves)
     (c.spelled_entries_fit.ensures c.requires.entries.0 _ c.requires.entries.1)
     c.in-Ok.ensures.judged
+
+pub returns-in-Ok-clause-start : goal.returns-in-Ok-clause-start
+returns-in-Ok-clause-start c =
+    let judged = c.requires.judged in
+    c.bound_programs_start_in_range.ensures _ c.args.resolved c.requires.entries.0 _ _
+    (c.resolved_sources_are.ensures judged.source _ _ judged.reads judged.resolves)
+    c.requires.entries.1
+    c.in-Ok.ensures.judged
