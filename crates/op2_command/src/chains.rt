@@ -7,6 +7,7 @@ ghost use Rattle.job_inputs.specs.Readings.{AreNext};
 ghost use Rattle.mesh_decl.specs.Owners.{AreOwners};
 ghost use Rattle.bound_program.specs.Values.{bound_of};
 ghost use Rattle.bound_program.specs.Fits.{Fits};
+ghost use Rattle.run_model.specs.Ranges.{StartsInRange};
 ghost use Rattle.deep_halo.specs.Runs.{stop_in};
 ghost use Rattle.command_words.specs.Words.{names_by};
 ghost use Rattle.command_words.specs.Laws.{AreFew};
@@ -18,7 +19,6 @@ ghost use Rattle.job_inputs.specs.Inputs.{HasNarrowMaps};
 ghost use Rattle.job_inputs.specs.Chains.{AnswersFrom};
 
 use crate::faults::put_fault;
-use crate::ranges::starts_in_range;
 use answers::laws::runs_answer_on_cells;
 use bound_program::Bound;
 use chain_needs::chain_slices::slices;
@@ -80,10 +80,10 @@ fn chain_answer(
     requires fits { Fits (bound_of bound.now) }
     requires obeyed { AccessesAre (bound_of bound.now) (Ok tt) }
     requires narrow { HasNarrowMaps (bound_of bound.now) }
+    requires start { StartsInRange (bound_of bound.now) }
     requires owners { AreOwners (bound_of bound.now).mesh owners.now }
     ensures { IfOk result (λ a. answer_of a ≡ chain_answer (chain_job_in job) dumps (bound_of bound.now) owners.now) }
 {
-    starts_in_range(bound);
     narrow_meshes_fit_memory();
     runs_answer_on_cells();
     let sliced = slices(alloc, bound, owners)?;
@@ -115,6 +115,7 @@ pub fn chained<'a, F: Shelf>(
     requires fits { Fits (bound_of bound.now) }
     requires obeyed { AccessesAre (bound_of bound.now) (Ok tt) }
     requires narrow { HasNarrowMaps (bound_of bound.now) }
+    requires start { StartsInRange (bound_of bound.now) }
     ensures { AnswersFrom (F.told shelf.old) kept.old
         (λ files. ChainAnswers (chain_job_in job) (chain_options_in options.now) files (bound_of bound.now))
         (Rose (F.faults shelf.old) (F.faults shelf.new)) result }

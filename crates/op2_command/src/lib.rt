@@ -12,7 +12,6 @@ mod faults;
 mod in_turn;
 mod plan_task;
 mod plans;
-mod ranges;
 mod runs;
 mod schedules;
 mod sources;

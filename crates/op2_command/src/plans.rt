@@ -5,6 +5,7 @@ ghost use Rattle.op_outside.specs.Outside.{Rose};
 ghost use Rattle.job_inputs.specs.Readings.{AreNext};
 ghost use Rattle.bound_program.specs.Values.{bound_of};
 ghost use Rattle.bound_program.specs.Fits.{Fits};
+ghost use Rattle.run_model.specs.Ranges.{StartsInRange};
 ghost use Rattle.loop_plan.specs.Planned.{outline_of};
 ghost use Rattle.schedule_steps.specs.declared.step.Step.{Step as StepValue};
 ghost use Rattle.rank_exec.specs.Orders.{InOrder, CanTake, message_cells_of};
@@ -24,6 +25,7 @@ use crate::in_turn::goes_in_turn;
 use crate::plan_task::PlanTask;
 use crate::runs::run_on;
 use crate::schedules::{end_line, judged, lines_of};
+use answers::laws::chosen_programs_start_in_range;
 use bound_program::Bound;
 use command_words::answer_lines::{Answer, Halt, Limit};
 use command_words::{Options, PlanJob, Schedule};
@@ -64,6 +66,7 @@ fn planned_answer<R: Threads + Sync, G: Gate>(
     order: &Order<'_>,
 ) -> Result<Answer, OutOfMemory>
     requires obeyed { AccessesAre (bound_of planned.now.bound) (Ok tt) }
+    requires start { StartsInRange (bound_of planned.now.bound) }
     requires order { CanTake (outline_of planned.now) (message_cells_of planned.now) order.now }
     ensures { IfOk result (λ a. (l : List StepValue) → InOrder (outline_of planned.now) order.now l
         → answer_of a ≡ planned_answer (job_in task.now.job) task.now.options.now.dumps (chosen_in task.now.first planned.now)
@@ -93,6 +96,7 @@ fn by_text<'a, R: Threads + Sync, G: Gate>(
     bytes: &[u8],
 ) -> Result<Answer, Halt<'a>>
     requires obeyed { AccessesAre (bound_of planned.now.bound) (Ok tt) }
+    requires start { StartsInRange (bound_of planned.now.bound) }
     requires few { length bytes.now ≤ SCHEDULE_BYTES }
     ensures { AnswersBy (StepsAnswers (job_in task.now.job) (options_in task.now.options.now) (chosen_in task.now.first planned.now)
         (planned_of planned.now) (ByText bytes.now)) result }
@@ -119,6 +123,7 @@ fn scheduled<'a, F: Shelf, R: Threads + Sync, G: Gate>(
     requires within { AreWithin (options_in task.now.options.now) }
     requires turn { task.now.in_turn ≡ true → GoesInTurn (job_in task.now.job) (options_in task.now.options.now) }
     requires obeyed { AccessesAre (bound_of planned.now.bound) (Ok tt) }
+    requires start { StartsInRange (bound_of planned.now.bound) }
     ensures { AnswersFrom (F.told shelf.old) kept.old
         (ScheduleAnswers (job_in task.now.job) (options_in task.now.options.now) (chosen_in task.now.first planned.now)
         (planned_of planned.now)) (Rose (F.faults shelf.old) (F.faults shelf.new)) result }
@@ -160,6 +165,7 @@ fn chosen_answer<'a, F: Shelf, R: Threads + Sync, G: Gate>(
     requires within { AreWithin (options_in options.now) }
     requires fits { Fits (bound_of chosen.now.bound) }
     requires obeyed { AccessesAre (bound_of chosen.now.bound) (Ok tt) }
+    requires start { StartsInRange (bound_of chosen.now.bound) }
     ensures { AnswersFrom (F.told shelf.old) kept.old
         (λ files. ChosenAnswers (job_in job) (options_in options.now) files (chosen_of chosen.now))
         (Rose (F.faults shelf.old) (F.faults shelf.new)) result }
@@ -194,9 +200,11 @@ pub fn planned<'a, F: Shelf, R: Threads + Sync, G: Gate>(
     requires within { AreWithin (options_in options.now) }
     requires fits { Fits (bound_of bound) }
     requires obeyed { AccessesAre (bound_of bound) (Ok tt) }
+    requires start { StartsInRange (bound_of bound) }
     ensures { AnswersFrom (F.told shelf.old) kept.old (λ files. PlannedAnswers (job_in job) (options_in options.now) files (bound_of bound))
         (Rose (F.faults shelf.old) (F.faults shelf.new)) result }
 {
+    chosen_programs_start_in_range();
     let text = state_text_of(crew.alloc, shelf, kept, options.stretch)?;
     let chosen = chosen_by(crew.alloc, bound, options.stretch, &text)?;
     chosen_answer(crew, shelf, kept, job, options, &chosen)

@@ -3,6 +3,7 @@
 ghost use Rattle.std.specs.Prelude.{◌≡◌, List, Ok, IfOk};
 ghost use Rattle.rank_state.specs.Stops.{stop_in};
 ghost use Rattle.bound_program.specs.Values.{bound_of};
+ghost use Rattle.run_model.specs.Ranges.{StartsInRange};
 ghost use Rattle.loop_plan.specs.Planned.{outline_of};
 ghost use Rattle.schedule_steps.specs.declared.step.Step.{Step as StepValue};
 ghost use Rattle.rank_exec.specs.Orders.{InOrder, CanTake, message_cells_of, planned_dump};
@@ -12,7 +13,6 @@ ghost use Rattle.command_words.specs.Halts.{answer_of};
 
 use crate::faults::put_fault;
 use crate::plan_task::PlanTask;
-use crate::ranges::starts_in_range;
 use answers::laws::runs_answer_on_cells;
 use command_words::answer_lines::Answer;
 use loop_plan::planned_program::Planned;
@@ -53,13 +53,15 @@ pub fn run_on<R: Threads + Sync, G: Gate>(
     order: &Order<'_>,
 ) -> Result<Answer, OutOfMemory>
     requires obeyed { AccessesAre (bound_of planned.now.bound) (Ok tt) }
+    requires start { StartsInRange (bound_of planned.now.bound) }
     requires order { CanTake (outline_of planned.now) (message_cells_of planned.now) order.now }
     ensures { IfOk result (λ a. (l : List StepValue) → InOrder (outline_of planned.now) order.now l
         → answer_of a ≡ run_answer task.now.first (bound_of planned.now.bound)
         (planned_dump task.now.options.now.dumps planned.now l)) }
 {
-    starts_in_range(planned.bound);
     runs_answer_on_cells();
+    // The program of a plan fits, which a look at it tells.
+    let _bound = planned.bound;
     let outcome = run_on_ranks(crew, planned, order, task.options.dumps)?;
     ran(crew.alloc, outcome, task.first)
 }

@@ -27,7 +27,7 @@ returns c =
       owners = c.requires.owners;
       memory = c.narrow_meshes_fit_memory.ensures b.mesh c.requires.fits.mesh c.requires.narrow;
       obey = λ n f lt at. c.requires.obeyed n no_site lt f at;
-      start = c.starts_in_range.ensures;
+      start = c.requires.start;
     } in
     let prints = c.in_ok-outcome-in-RunsChains.ensures.sequential chainable in
     let machine = c.in_ok-outcome-in-RunsChains.ensures.machine in

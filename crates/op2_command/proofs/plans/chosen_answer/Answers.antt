@@ -3,6 +3,7 @@ use Rattle.std.proofs.lemmas.Result.{err_from_is_err_and}
 use Rattle.op_outside.specs.Outside.{Rose}
 use Rattle.bound_program.specs.declared.programs.Bound.{Bound}
 use Rattle.bound_program.specs.Values.{bound_of}
+use Rattle.run_model.specs.Ranges.{StartsInRange}
 use Rattle.command_words.specs.Words.{names_by, names_in_blocks, names_at}
 use Rattle.command_words.specs.Values.{options_in, job_in}
 use Rattle.answers.specs.Judgements.{AccessesAre}
@@ -34,6 +35,10 @@ scheduled-requires-clause-next g c κs within =
 pub scheduled-requires-clause-obeyed : goal.scheduled-requires-clause-obeyed
 scheduled-requires-clause-obeyed g c κs within =
     subst (λ (b : Bound). AccessesAre (bound_of b) (Ok tt)) (sym c.in_ok-planned.ensures.of) c.requires.obeyed
+
+pub scheduled-requires-clause-start : goal.scheduled-requires-clause-start
+scheduled-requires-clause-start g c κs within =
+    subst (λ (b : Bound). StartsInRange (bound_of b)) (sym c.in_ok-planned.ensures.of) c.requires.start
 
 pub returns : goal.returns
 returns g c =

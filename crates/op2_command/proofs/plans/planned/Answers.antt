@@ -2,7 +2,7 @@ use Rattle.std.proofs.lemmas.Result.{err_from_is_err_and}
 use Rattle.op_outside.specs.Outside.{Rose}
 use Rattle.bound_program.specs.Values.{bound_of}
 use Rattle.command_words.specs.Values.{options_in, job_in}
-use Rattle.job_inputs.specs.Inputs.{chosen_of}
+use Rattle.job_inputs.specs.Inputs.{cut_by, chosen_of}
 use Rattle.op2_command.proofs.Chosen.{state_next, behind_state, state_unread, unchosen, chosen_answered}
 use Rattle.op2_command.proofs.plans.planned.Goals as goal
 
@@ -27,6 +27,11 @@ returns-in_err-chosen g c =
 pub chosen_answer-requires-clause-next : goal.chosen_answer-requires-clause-next
 chosen_answer-requires-clause-next g c κs within =
     behind_state (options_in c.args.options.now) c.args.kept.now c.state_text_of.new.kept c.requires.next c.in_ok-text.ensures.come
+
+pub chosen_answer-requires-clause-start : goal.chosen_answer-requires-clause-start
+chosen_answer-requires-clause-start g c κs within =
+    c.chosen_programs_start_in_range.ensures (cut_by (options_in c.args.options.now).stretch c.deref.result.now) (bound_of c.args.bound)
+    (chosen_of c.in_ok-chosen.chosen) c.requires.start c.in_ok-chosen.ensures.ok
 
 pub returns : goal.returns
 returns g c =

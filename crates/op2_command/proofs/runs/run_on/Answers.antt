@@ -1,7 +1,6 @@
 use Rattle.std.proofs.Common.{sym, subst, ap₂, ◌∙◌}
 use Rattle.bound_program.specs.Values.{bound_of, no_site}
 use Rattle.bound_program.specs.Fits.{Fits}
-use Rattle.run_model.specs.Ranges.{StartsInRange}
 use Rattle.loop_plan.specs.Planned.{PlannedValue}
 use Rattle.answers.specs.Answers.{ran}
 use Rattle.job_inputs.proofs.Public.{if_ok_weaker}
@@ -9,10 +8,6 @@ use Rattle.op2_command.proofs.runs.run_on.Goals as goal
 
 pub run_on_ranks-requires-clause-obey : goal.run_on_ranks-requires-clause-obey
 run_on_ranks-requires-clause-obey g c κs within = λ n f lt at. c.requires.obeyed n no_site lt f at
-
-pub run_on_ranks-requires-clause-start : goal.run_on_ranks-requires-clause-start
-run_on_ranks-requires-clause-start g c κs within =
-    subst (λ (v : PlannedValue). StartsInRange (bound_of v.bound)) c.planned.view_is c.starts_in_range.ensures
 
 pub returns : goal.returns
 returns g c =
