@@ -1,5 +1,6 @@
-# The flux loop on the edges of a grid and of a triangulation: run less check, beside plain C. See flux.sh.
-import array, sys
+# The flux loop on the edges of a grid and of a triangulation: run less check, beside plain C. See flux.sh. Where COUNT is all in the environment, instructions
+# are counted at any number of edges.
+import array, os, sys
 from beside import compiled, instructions, least, plain, write_mesh
 
 op2, work, times = sys.argv[1], sys.argv[2], int(sys.argv[3])
@@ -79,7 +80,7 @@ for n in sizes:
         c = compiled(work, "flux", PLAIN)
         if c:
             line += f"; plain C {plain([c, work + '/b']):.1f} ns"
-        counts = [instructions(call) for call in calls] if len(edges) <= 200000 else [None]
+        counts = [instructions(call) for call in calls] if len(edges) <= 200000 or os.environ.get("COUNT") == "all" else [None]
         if None not in counts:
             line += f"; {(counts[1] - counts[0]) // len(edges)} and {(counts[2] - counts[1]) // len(edges)} machine instructions"
         print(line, flush=True)
