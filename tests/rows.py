@@ -88,9 +88,14 @@ def accepted(asked, row, files, folder):
     return lines
 
 
+def is_left_out(row):
+    """Whether a row can't be called over real files."""
+    return bool("read_fails" in row or row.get("write_fails") or row.get("report_fails"))
+
+
 def differences(asked, texts, row):
-    """The lines that say in what the calls of a row differ from it; nothing where it is left out."""
-    if "read_fails" in row or row.get("write_fails") or row.get("report_fails"):
+    """The lines that say in what the calls of a row differ from it, by the programs that `asked.op2` and `asked.tools` are; nothing where it is left out."""
+    if is_left_out(row):
         return None
     try:
         if row.keys() - FIELDS:
@@ -114,6 +119,12 @@ def table_of(name):
     return path if path.is_file() else DATA / (name if name.endswith(".toml") else name + ".toml")
 
 
+def read_table(path):
+    """The texts of a table, by their names, and its rows."""
+    table = tomllib.loads(path.read_text())
+    return table.get("texts", {}), table.get("row", [])
+
+
 def main():
     words = argparse.ArgumentParser()
     words.add_argument("op2", nargs="?")
@@ -125,9 +136,8 @@ def main():
     with concurrent.futures.ThreadPoolExecutor(len(os.sched_getaffinity(0))) as pool:
         calls = []
         for path in asked.tables or sorted(DATA.glob("*.toml")):
-            table = tomllib.loads(path.read_text())
-            texts = table.get("texts", {})
-            calls.append((path.name, [(row["name"], pool.submit(differences, asked, texts, row)) for row in table.get("row", [])]))
+            texts, table = read_table(path)
+            calls.append((path.name, [(row["name"], pool.submit(differences, asked, texts, row)) for row in table]))
         for name, ends in calls:
             unlike_rows = 0
             for row, end in ends:
@@ -144,4 +154,5 @@ def main():
     return differing > 0
 
 
-sys.exit(main())
+if __name__ == "__main__":
+    sys.exit(main())

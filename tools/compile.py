@@ -18,10 +18,13 @@ import time
 sys.dont_write_bytecode = True
 from repository import TOP, clock, kit_folder, tell
 
-# The kit's own words for a proved program, but for the level: at -O3 it takes longer, and what it makes is no faster.
+# The kit's own words for a proved program, but for the level of optimisation.
 CLANG = """--target=x86_64-unknown-linux-gnu -march=x86-64-v2 -mllvm -no-trap-after-noreturn -ffunction-sections -fdata-sections
     -mllvm -trap-unreachable -mllvm -no-x86-call-frame-opt --no-default-config -no-canonical-prefixes -fintegrated-cc1
-    -fno-crash-diagnostics -fPIE -O2""".split()
+    -fno-crash-diagnostics -fPIE""".split()
+
+# At -O3 it takes longer, and what it makes is no faster.
+LEVEL = "-O2"
 
 # `rt try` compiles the program with checks of addresses, and another module, of their settings, without.
 STAND_IN = """#!/bin/sh
@@ -105,10 +108,10 @@ def read_module(kit, crate, top, work):
     return module
 
 
-def link(kit, module, work):
+def link(kit, module, work, level):
     """Compiles and links the module, and gives the file of the program."""
     made, program = f"{work}/program.o", f"{work}/program"
-    clang = [f"{kit}/toolchain/bin/clang", f"--sysroot={kit}/toolchain", *CLANG]
+    clang = [f"{kit}/toolchain/bin/clang", f"--sysroot={kit}/toolchain", *CLANG, level]
     status, said = call([*clang, "-c", "-x", "ir", module, "-o", made], work)
     if status:
         raise NotCompiled(f"clang ended with {status}: {last_lines(said)}")
@@ -120,8 +123,8 @@ def link(kit, module, work):
     return program
 
 
-def compile_program(crate, target, top=TOP, say=lambda step: None):
-    """Compiles the program of a crate into a file. It says each step as it begins, or raises NotCompiled."""
+def compile_program(crate, target, top=TOP, say=lambda step: None, level=LEVEL):
+    """Compiles the program of a crate into a file, at that level of optimisation. It says each step as it begins, or raises NotCompiled."""
     kit = kit_folder()
     if not kit:
         raise NotCompiled("the command rt is missing, or names no kit")
@@ -129,7 +132,7 @@ def compile_program(crate, target, top=TOP, say=lambda step: None):
         say("reading the crates")
         module = read_module(kit, crate, top, work)
         say("compiling")
-        os.replace(link(kit, module, work), target)
+        os.replace(link(kit, module, work, level), target)
 
 
 def main():
