@@ -6,10 +6,11 @@ Usage: tests/wrong_bodies.py [--list | --data | --unchanged] [--jobs N] [--level
 """
 import argparse, multiprocessing, os, pathlib, shutil, signal, subprocess, sys, tempfile, tomllib
 from types import SimpleNamespace
+
+sys.dont_write_bytecode = True
 from programs import programs, top
 import rows
 
-sys.dont_write_bytecode = True
 sys.path.append(str(top / "tools"))
 from compile import NotCompiled, compile_program
 from repository import PROGRAMS
