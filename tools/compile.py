@@ -18,12 +18,12 @@ import time
 sys.dont_write_bytecode = True
 from repository import TOP, clock, kit_folder, tell
 
-# The kit's own words for a proved program, but for the level of optimisation.
+# The kit's own words for a proved program, but for the level.
 CLANG = """--target=x86_64-unknown-linux-gnu -march=x86-64-v2 -mllvm -no-trap-after-noreturn -ffunction-sections -fdata-sections
     -mllvm -trap-unreachable -mllvm -no-x86-call-frame-opt --no-default-config -no-canonical-prefixes -fintegrated-cc1
     -fno-crash-diagnostics -fPIE""".split()
 
-# At -O3 it takes longer, and what it makes is no faster.
+# The level of optimisation; the kit compiles what is proved at -O3.
 LEVEL = "-O2"
 
 # `rt try` compiles the program with checks of addresses, and another module, of their settings, without.
