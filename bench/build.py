@@ -8,6 +8,7 @@ Run it with nothing else running: it says how busy the machine was at the start 
 import argparse
 import datetime
 import os
+import resource
 import shutil
 import subprocess
 import sys
@@ -31,7 +32,7 @@ def link_or_copy(source, target):
 
 
 def measure(name, work, log):
-    """Runs one of the three in a clone, home and kit of its own; gives its status and seconds."""
+    """Runs one of the three in a clone, home and kit of its own; gives its status, the seconds that passed and those of processors."""
     room = f"{work}/{name}"
     os.makedirs(f"{room}/home")
     kit = os.path.dirname(subprocess.run(["rt", "doc"], capture_output=True, text=True, check=True).stdout.strip())
@@ -41,11 +42,11 @@ def measure(name, work, log):
     for name_of_choice in ("OP2_BUILD", "OP2_LANES", "RT_JOBS"):
         environment.pop(name_of_choice, None)
     print(f"{name}: begins at {datetime.datetime.now():%H:%M:%S}, load {os.getloadavg()[0]:.1f}", file=sys.stderr, flush=True)
-    began = time.time()
+    began, before = time.time(), resource.getrusage(resource.RUSAGE_CHILDREN)
     done = subprocess.run(COMMANDS[name][1], cwd=f"{room}/op2", env=environment, stdin=subprocess.DEVNULL, stdout=log, stderr=log, check=False)
-    took = time.time() - began
+    took, after = time.time() - began, resource.getrusage(resource.RUSAGE_CHILDREN)
     shutil.rmtree(room, ignore_errors=True)
-    return done.returncode, took
+    return done.returncode, took, after.ru_utime + after.ru_stime - before.ru_utime - before.ru_stime
 
 
 def main():
@@ -59,11 +60,11 @@ def main():
     state = subprocess.run(["git", "-C", TOP, "rev-parse", "--short", "HEAD"], capture_output=True, text=True, check=True).stdout.strip()
     kit = subprocess.run(["rt", "version"], capture_output=True, text=True, check=True).stdout.split()[0]
     processors = len(os.sched_getaffinity(0))
-    print(f"| {state}, {kit}, {datetime.date.today()}, {processors} processors | minutes | status |\n|---|---|---|", flush=True)
+    print(f"| {state}, {kit}, {datetime.date.today()}, {processors} processors | minutes | of a processor | status |\n|---|---|---|---|", flush=True)
     with tempfile.TemporaryDirectory(prefix="op2-build-", dir=os.environ.get("TMPDIR", "/var/tmp")) as work, open(given.log, "w") as log:
         for name in given.names or COMMANDS:
-            status, seconds = measure(name, work, log)
-            print(f"| {COMMANDS[name][0]} | {seconds / 60:.1f} | {status} |", flush=True)
+            status, seconds, spent = measure(name, work, log)
+            print(f"| {COMMANDS[name][0]} | {seconds / 60:.1f} | {spent / 60:.1f} | {status} |", flush=True)
 
 
 main()
