@@ -82,5 +82,5 @@ for n in sizes:
             line += f"; plain C {plain([c, work + '/b']):.1f} ns"
         counts = [instructions(call) for call in calls] if len(edges) <= 200000 or os.environ.get("COUNT") == "all" else [None]
         if None not in counts:
-            line += f"; {(counts[1] - counts[0]) // len(edges)} and {(counts[2] - counts[1]) // len(edges)} machine instructions"
+            line += f"; {(counts[1] - counts[0]) // len(edges)} and {(counts[2] - counts[1]) // len(edges)} machine instructions, of the whole run {counts[1] // len(edges)}"
         print(line, flush=True)
