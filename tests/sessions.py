@@ -40,6 +40,7 @@ with tempfile.TemporaryDirectory() as name:
         for at in range(1, len(parts), 3):
             kind, block, behind = parts[at : at + 3]
             if kind == "sh":
+                block = re.sub(r"^tools/check.*\n", "", block, flags=re.M)  # which calls this script
                 status, found = run(folder, block)
                 if not behind.strip() and at + 3 < len(parts) and not parts[at + 3]:
                     compare(page, block, found, parts[at + 4])
