@@ -46,6 +46,21 @@ impl Masks {
         }
     }
 
+    // The colours below 32 that some of these targets have.
+    fn joined_first(&self, targets: &[u32], start: usize, end: usize) -> u32
+        requires start { start ≤ end }
+        requires end { end ≤ length targets.now }
+        requires targets { EachIndex targets.now (λ k. slice_index targets.now k < length self.now.first.items) }
+        ensures { (b : ℕ) → (bit_at result b ≡ 1)
+            ↔ ((k : ℕ) × (start ≤ k) × (k < end) × Has self.now (slice_index targets.now k) 0 b) }
+    {
+        let mut all = 0;
+        for k in start..end {
+            all |= self.first[targets[k] as usize];
+        }
+        all
+    }
+
     /// The colours of a word that some of these targets have.
     pub fn joined(&self, targets: &[u32], start: usize, end: usize, number: u32) -> u32
         requires start { start ≤ end }
@@ -54,6 +69,9 @@ impl Masks {
         ensures { (b : ℕ) → (bit_at result b ≡ 1)
             ↔ ((k : ℕ) × (start ≤ k) × (k < end) × Has self.now (slice_index targets.now k) number b) }
     {
+        if number == 0 {
+            return self.joined_first(targets, start, end);
+        }
         let mut all = 0;
         for k in start..end {
             all |= self.word(targets[k], number);
@@ -79,22 +97,37 @@ impl Masks {
         Ok(())
     }
 
-    // Gives a target a colour.
-    fn give(&mut self, target: u32, number: u32, bit: u32) -> Result<(), OutOfMemory>
+    // Gives a target a colour below 32.
+    fn give_first(&mut self, target: u32, bit: u32)
         requires target { target < length self.old.first.items }
         requires bit { bit < 32 }
-        ensures given { OnOk result ((t v b : ℕ) → Has self.new t v b
-            ↔ (Has self.old t v b ⊎ ((t ≡ target) × (v ≡ number) × (b ≡ bit)))) }
-        ensures passed { OnOk result (self.new.passed ≡ self.old.passed) }
-        ensures length { OnOk result (length self.new.first.items ≡ length self.old.first.items) }
-        ensures others { OnOk result ((t : ℕ) → (t ≡ target → ⊥)
-            → slice_index self.new.first.items t ≡ slice_index self.old.first.items t) }
+        ensures given { (t v b : ℕ) → Has self.new t v b
+            ↔ (Has self.old t v b ⊎ ((t ≡ target) × (v ≡ 0) × (b ≡ bit))) }
+        ensures passed { self.new.passed ≡ self.old.passed }
+        ensures length { length self.new.first.items ≡ length self.old.first.items }
+        ensures others { (t : ℕ) → (t ≡ target → ⊥)
+            → slice_index self.new.first.items t ≡ slice_index self.old.first.items t }
     {
-        if number > 0 {
-            return self.give_later(target, number, bit);
-        }
         self.first[target as usize] |= 1 << bit;
-        Ok(())
+    }
+
+    // Gives these targets one colour more, below 32.
+    fn add_first(&mut self, targets: &[u32], start: usize, end: usize, colour: u32)
+        requires start { start ≤ end }
+        requires end { end ≤ length targets.now }
+        requires colour { colour < 32 }
+        requires targets { EachIndex targets.now (λ k. slice_index targets.now k < length self.old.first.items) }
+        ensures added { (t v b : ℕ) → b < 32 → Has self.new t v b
+            ↔ (Has self.old t v b
+            ⊎ ((32 * v + b ≡ colour) × ((k : ℕ) × (start ≤ k) × (k < end) × (slice_index targets.now k ≡ t)))) }
+        ensures passed { self.new.passed ≡ self.old.passed }
+        ensures length { length self.new.first.items ≡ length self.old.first.items }
+        ensures others { (t : ℕ) → ((k : ℕ) → start ≤ k → k < end → slice_index targets.now k ≡ t → ⊥)
+            → slice_index self.new.first.items t ≡ slice_index self.old.first.items t }
+    {
+        for k in start..end {
+            self.give_first(targets[k], colour);
+        }
     }
 
     /// Gives these targets one colour more.
@@ -116,8 +149,12 @@ impl Masks {
         ensures others { OnOk result ((t : ℕ) → ((k : ℕ) → start ≤ k → k < end → slice_index targets.now k ≡ t → ⊥)
             → slice_index self.new.first.items t ≡ slice_index self.old.first.items t) }
     {
+        if colour < 32 {
+            self.add_first(targets, start, end, colour);
+            return Ok(());
+        }
         for k in start..end {
-            self.give(targets[k], colour / 32, colour % 32)?;
+            self.give_later(targets[k], colour / 32, colour % 32)?;
         }
         Ok(())
     }
