@@ -1,13 +1,10 @@
 -- What is known of the plan of a bound program on its ranks.
-use Rattle.std.specs.Prelude.{◌≡◌, Bool, false, List, Ok}
+use Rattle.std.specs.Prelude.{◌≡◌, Ok}
 use Rattle.op_outside.specs.Outside.{Files}
 use Rattle.mesh_decl.specs.declared.owners.Owners.{Owners}
 use Rattle.mesh_decl.specs.declared.owners.Perms.{Perms}
 use Rattle.partition.specs.Parts.{Parts}
-use Rattle.local_mesh.specs.declared.types.RankMesh.{RankMesh}
 use Rattle.bound_program.specs.Values.{BoundValue}
-use Rattle.loop_plan.specs.Values.{PlanValue}
-use Rattle.loop_plan.specs.Proper.{Proper}
 use Rattle.loop_plan.specs.Planned.{PlannedValue}
 use Rattle.plan_cert.specs.declared.types.CertRefusal.{CertRefusal}
 use Rattle.plan_cert.specs.declared.types.CertRefusal.TheVariants as cert
@@ -15,24 +12,11 @@ use Rattle.command_words.specs.Refusal.{Steps, Refusal, BadPlan, BeyondLimit}
 use Rattle.command_words.specs.Words.{Options}
 use Rattle.command_words.specs.Lines.{Answer}
 use Rattle.answers.specs.Judgements as judged
-use Rattle.answers.specs.Judgements.{Colouring, NumbersOf, PartsOf, OwnersOf, ColouringOf, IsPlanned, PlanIs}
+use Rattle.answers.specs.Judgements.{Colouring, NumbersOf, PartsOf, OwnersOf, ColouringOf, PlanIs}
 
 -- the mesh on ranks and the plan there, as the judgements have them
 abbrev pub planned_of : PlannedValue → judged.Planned
 planned_of p = record { distribution = p.distribution; plan = p.plan }
-
--- A plan that runs what the one does that is asked for, in as many steps. It is that one, unless places go in their order.
-pub record StandsFor (in_turn : Bool) (c : Colouring) (b : BoundValue) (meshes : List RankMesh) (p : PlanValue) : Type 0 where
-  pub proper : Proper b meshes p
-  pub asked : PlanValue
-  pub planned : IsPlanned c b meshes asked
-  pub steps : p.steps ≡ asked.steps
-  pub same : in_turn ≡ false → p ≡ asked
-
--- A mesh on ranks with plans of as many steps. They are one, unless places go in their order.
-pub record AreAlike (in_turn : Bool) (p q : judged.Planned) : Type 0 where
-  pub steps : p.plan.steps ≡ q.plan.steps
-  pub same : in_turn ≡ false → p ≡ q
 
 -- nothing is answered of a plan, so that all answers are refusals that came before
 abbrev pub Unplanned : judged.Planned → Answer → Type 0

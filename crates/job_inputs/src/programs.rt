@@ -29,6 +29,7 @@ use command_words::{Input, Side};
 use kernel_model::types::Resolved;
 use mesh_gen::{SampleRefusal, sample};
 use op_outside::Shelf;
+use par_exec::{Gate, Phase};
 use std::alloc::Global;
 
 /// A program, bound to the entries in the text of a mesh; its kernels keep to their accesses.
@@ -54,12 +55,13 @@ pub fn bound_over<'a>(
 }
 
 // The program in the file `source`, bound to the mesh in the file `mesh`.
-fn bound_files<'a, F: Shelf>(
+fn bound_files<'a, F: Shelf, G: Gate>(
     alloc: Global,
     shelf: &mut F,
     kept: &mut Kept<'a>,
     source: &'a str,
     mesh: &'a str,
+    gate: &G,
 ) -> Result<Bound, Halt<'a>>
     requires source { F.lends shelf.old source.now }
     requires mesh { F.lends shelf.old mesh.now }
@@ -81,6 +83,7 @@ fn bound_files<'a, F: Shelf>(
     let program = tree_of(alloc, &bytes)?;
     let types = types_of(alloc, &program)?;
     let text = file_of(alloc, shelf, kept, mesh, Limit::MeshBytes)?;
+    gate.phase(Phase::Read);
     bound_over(alloc, &program, types, &text)
 }
 
@@ -108,12 +111,13 @@ fn bound_sample<'a>(alloc: Global, side: Side) -> Result<Bound, Halt<'a>>
 ///
 /// Judged are, up to the first refusal, the source, its tree, its names and types, the mesh, its entries, their binding
 /// and the accesses. A file that could not be read is a failure, where the shelf's count of faults rose, and so is want
-/// of memory.
-pub fn bound_input<'a, F: Shelf>(
+/// of memory. The gate is told when the files have been read.
+pub fn bound_input<'a, F: Shelf, G: Gate>(
     alloc: Global,
     shelf: &mut F,
     kept: &mut Kept<'a>,
     input: Input<'a>,
+    gate: &G,
 ) -> Result<Bound, Halt<'a>>
     requires lent { All (λ name. F.lends shelf.old name) (names_from (input_in input)) }
     requires next { AreNext (names_from (input_in input)) kept.old }
@@ -130,7 +134,7 @@ pub fn bound_input<'a, F: Shelf>(
         (λ files r. BoundAnswers Never (input_in input.entry) files (refused r)) (Rose (F.faults shelf.old) (F.faults shelf.new))) }
 {
     match input {
-        Input::InFiles { source, mesh } => bound_files(alloc, shelf, kept, source, mesh),
+        Input::InFiles { source, mesh } => bound_files(alloc, shelf, kept, source, mesh, gate),
         Input::OfSample { side } => bound_sample(alloc, side),
     }
 }

@@ -6,5 +6,5 @@ mod differing;
 mod room;
 mod rounds;
 
-pub use at_once::{AtOnce, OneWorker, Workers};
+pub use at_once::{Workers, most_at_once, run_at_once};
 pub use room::BatchesRoom;

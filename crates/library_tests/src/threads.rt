@@ -8,7 +8,7 @@ use std::sync::atomic::{AtomicU64, Ordering};
 use std::thread::Threads;
 
 // So many workers on these threads, and a gate.
-fn crew<'a, R: Threads + Sync, G: Gate>(
+fn crew<'a, R: Threads + Sync, G: Gate + Sync>(
     threads: &'a R,
     alloc: Global,
     workers: u32,
@@ -93,7 +93,7 @@ impl PartJob<u32> for Add {
 
     ghost makes = { λ _ i x y. y ≡ x + i };
 
-    fn run<R: Threads + Sync>(&self, _threads: &R, _workers: u32, index: usize, part: &mut u32) {
+    fn run<G: Gate>(&self, _gate: &G, index: usize, part: &mut u32) {
         *part += index as u32;
     }
 }

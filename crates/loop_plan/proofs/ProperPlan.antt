@@ -25,8 +25,7 @@ use Rattle.loop_plan.specs.Counts.{Counts}
 use Rattle.loop_plan.specs.StepOutline.{is_free, loop_of, loop_at, step_outline, item_step_count}
 use Rattle.loop_plan.specs.ItemPlans.{plan_in, ArePlanned}
 use Rattle.loop_plan.specs.StepCounts.{message_count, place_count, steps_at, program_steps}
-use Rattle.loop_plan.specs.SitePlans.{IsLeastPlan, ArePlans, AreSitePlans, ArePlansOf}
-use Rattle.loop_plan.specs.Turns.{AreTurns, IsTurnPlan, HasTurns}
+use Rattle.loop_plan.specs.SitePlans.{IsLeastPlan, ArePlans, AreSitePlans}
 use Rattle.loop_plan.specs.Proper.{Separate, IsSitePlan, Proper, HasLeastColours}
 use Rattle.loop_plan.proofs.History.{are_exchanges}
 use Rattle.loop_plan.proofs.StepsCounted.{same_sum}
@@ -47,15 +46,6 @@ module _ (g : MeshValue) (maps : List (Vec ℕ Global)) (args : List IncArg) (pl
         (λ (l : x < y). (a.inner y ly).free x l k)
         (λ (l : _). λ e. (a.inner x lx).free y (let n : x ≡ y → ⊥ = ne in omega arith) (turned x y k) (sym e))
         (cases_lt x y);
-  }
-
-  -- so do colours that are each a place's own
-  pub turns_are_separate : AreTurns places size c → Separate g maps args places size c
-  turns_are_separate a = record {
-    blocks_count = a.blocks_count;
-    inner_count = a.inner_count;
-    blocks = λ x y lx ly ne k. λ e. ne (sym (a.blocks x lx) ∙ (e ∙ a.blocks y ly));
-    inner = λ x y lx ly ne k. λ e. ne (sym (a.inner x lx) ∙ (e ∙ a.inner y ly));
   }
 
 -- ---- loops that run
@@ -168,25 +158,6 @@ module _ (b : BoundValue) (meshes : List RankMesh) where
     plans = λ s l r. least_is_site_plan size s (or_none (lookup (nat_eq s) es)) (a.plans s l r);
   }
 
-  turn_is_site_plan : (size s : ℕ) (l : SitePlanValue) → IsTurnPlan b meshes size s l → IsSitePlan b meshes size s l
-  turn_is_site_plan size s l i = record {
-    places_count = i.places_count;
-    places = i.places;
-    colours_count = i.colours_count;
-    colours = λ n d m. turns_are_separate b.mesh (maps_of meshes n) (reducing (site_at b s).args) (places_of meshes (site_at b s) n) size
-        (slice_index_or l.colours n d) (i.colours n d m);
-  }
-
-  pub turns_are_site_plans : (size n : ℕ) (es : List (ℕ × SitePlanValue)) → ArePlansOf b (IsTurnPlan b meshes size) n es → AreSitePlans b meshes size n es
-  turns_are_site_plans size n es a = record {
-    keys = a.keys;
-    plans = λ s l r. turn_is_site_plan size s (or_none (lookup (nat_eq s) es)) (a.plans s l r);
-  }
-
   pub has_least : (p : PlanValue) → ArePlans b meshes p.block (length b.sites) p.sites → HasLeastColours b meshes p
   unfolding site_plan
   has_least p sites s r d l run m = (sites.plans s l run).colours r d m
-
-  pub has_turns : (p : PlanValue) → ArePlansOf b (IsTurnPlan b meshes p.block) (length b.sites) p.sites → HasTurns b meshes p
-  unfolding site_plan
-  has_turns p sites s r d l run m = (sites.plans s l run).colours r d m

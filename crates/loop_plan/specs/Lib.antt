@@ -11,7 +11,6 @@ pub mod Counts
 pub mod ItemPlans
 pub mod StepCounts
 pub mod Proper
-pub mod Turns
 pub mod SitePlans
 pub mod SameKeys
 pub mod Alike

@@ -7,12 +7,9 @@ use Rattle.colouring.specs.declared.types.Colours.{Colours}
 use Rattle.colouring.specs.Colours.{AreColours}
 use Rattle.bound_program.specs.Values.{BoundValue}
 use Rattle.bound_program.specs.Fits.{site_at}
-use Rattle.loop_plan.specs.declared.types.PlanKind.{PlanKind}
-use Rattle.loop_plan.specs.declared.types.PlanKind.TheVariants.{Coloured, InTurn}
 use Rattle.loop_plan.specs.Values.{SitePlanValue, or_none}
 use Rattle.loop_plan.specs.Places.{places_of, runs_free}
 use Rattle.loop_plan.specs.Proper.{HasColours, IsSitePlan}
-use Rattle.loop_plan.specs.Turns.{IsTurnPlan}
 
 -- by rank: colours for each number of places, of at most 64 ranks
 pub record IsByRank (l : SitePlanValue) : Type 0 where
@@ -32,16 +29,6 @@ module _ (b : BoundValue) where
   pub record ArePlansOf (IsPlan : ℕ → SitePlanValue → Type 0) (n : ℕ) (entries : List (ℕ × SitePlanValue)) : Type 0 where
     pub keys : map (λ e. e.0) entries ≡ listed n (runs_free b)
     pub plans : (s : ℕ) → s < n → runs_free b s ≡ true → IsPlan s (or_none (lookup (nat_eq s) entries))
-
--- a plan of this kind has blocks of so many places
-abbrev pub block_of : PlanKind → ℕ
-block_of (Coloured size) = size
-block_of (InTurn size) = size
-
--- the plan of a loop is of this kind
-abbrev pub IsPlanOf : BoundValue → List RankMesh → PlanKind → ℕ → SitePlanValue → Type 0
-IsPlanOf b meshes (Coloured size) = IsLeastPlan b meshes size
-IsPlanOf b meshes (InTurn size) = IsTurnPlan b meshes size
 
 -- the loops below n that run as Free ones have plans with least colours
 abbrev pub ArePlans : BoundValue → List RankMesh → ℕ → ℕ → List (ℕ × SitePlanValue) → Type 0

@@ -2,7 +2,7 @@
 ghost use Rattle.std.specs.Prelude.{◌≡◌, ◌<◌, true, IfOk, IfSome, length, slice_index_or};
 ghost use Rattle.bound_program.specs.Values.{bound_of};
 ghost use Rattle.bound_program.specs.Fits.{Fits};
-ghost use Rattle.loop_plan.specs.Alike.{IsKey, coloured_by};
+ghost use Rattle.loop_plan.specs.Alike.{IsKey};
 ghost use Rattle.loop_plan.specs.SameKeys.{AreSameKeys};
 ghost use Rattle.loop_plan.specs.declared.alike.PlanKey.{PlanKey as KeyValue};
 ghost use Rattle.bound_program.specs.Fits.{site_at};
@@ -10,7 +10,6 @@ ghost use Rattle.bound_program.specs.Fits.{site_at};
 use crate::exchange::args_of;
 use crate::needs::is_scattering;
 use crate::sites::reducing_args;
-use crate::types::PlanKind;
 use bound_program::Bound;
 use colouring::IncArg;
 use op_num::OutOfMemory;
@@ -28,33 +27,12 @@ pub struct PlanKey {
 // As many plans as are looked through for one that a loop can share.
 const LOOKED_AT: usize = 64;
 
-// The arguments by which a plan of this kind has its colours.
-fn merged_args(
-    alloc: Global,
-    bound: &Bound,
-    site: u32,
-    kind: PlanKind,
-) -> Result<Vec<IncArg>, OutOfMemory>
+/// What the plan of a loop is made from.
+pub fn plan_key(alloc: Global, bound: &Bound, site: u32) -> Result<PlanKey, OutOfMemory>
     requires { site < length (bound_of bound.now).sites }
-    ensures { IfOk result (λ v. coloured_by kind (site_at (bound_of bound.now) site).args ≡ v.items) }
+    ensures { IfOk result (IsKey (bound_of bound.now) site) }
 {
-    match kind {
-        PlanKind::Coloured { .. } => reducing_args(alloc, args_of(bound, site)),
-        PlanKind::InTurn { .. } => Ok(Vec::new(alloc)),
-    }
-}
-
-/// What the plan of this kind of a loop is made from.
-pub fn plan_key(
-    alloc: Global,
-    bound: &Bound,
-    site: u32,
-    kind: PlanKind,
-) -> Result<PlanKey, OutOfMemory>
-    requires { site < length (bound_of bound.now).sites }
-    ensures { IfOk result (IsKey (bound_of bound.now) kind site) }
-{
-    let merged = merged_args(alloc, bound, site, kind)?;
+    let merged = reducing_args(alloc, args_of(bound, site))?;
     Ok(PlanKey {
         set: bound.sites[site as usize].set,
         scattering: is_scattering(args_of(bound, site)),

@@ -19,7 +19,6 @@ pub mod planned_program;
 mod plans;
 mod shared;
 mod sites;
-mod turns;
 mod types;
 mod writing;
 
@@ -35,7 +34,7 @@ pub use laws::{
 };
 pub use needs::is_scattering;
 pub use places::{place_count, places_by_rank};
-pub use plans::{MAX_STEPS, number_of_steps, plan, plan_in_turn, planned_items};
+pub use plans::{MAX_STEPS, number_of_steps, plan, planned_items};
 pub use schedule_steps::Step;
 pub use shared::SitePlans;
 pub use sites::{reducing_args, running_loops, site_plans};

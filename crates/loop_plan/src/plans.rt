@@ -8,12 +8,11 @@ ghost use Rattle.loop_plan.specs.ItemPlans.{ArePlanned};
 ghost use Rattle.loop_plan.specs.Places.{HaveSets};
 ghost use Rattle.loop_plan.specs.StepCounts.{program_steps, max_steps, Refuses};
 ghost use Rattle.loop_plan.specs.Proper.{Proper, HasLeastColours};
-ghost use Rattle.loop_plan.specs.Turns.{HasTurns};
 
 use crate::counting::{count_steps, totals_by_loop};
 use crate::items::item_plans;
 use crate::sites::site_plans;
-use crate::types::{ItemPlan, Plan, PlanKind, PlanRefusal};
+use crate::types::{ItemPlan, Plan, PlanRefusal};
 use bound_program::Bound;
 use local_mesh::RankMesh;
 use local_mesh::halo_lists::Halos;
@@ -119,40 +118,7 @@ pub fn plan(
 {
     bound.mesh.is_in_range();
     let counted = counted_items(alloc, bound, ranks, halos)?;
-    let sites = site_plans(alloc, bound, ranks, PlanKind::Coloured { size: block })?;
-    Ok(Plan {
-        ranks: ranks.len() as u32,
-        block,
-        sites,
-        items: counted.items,
-        steps: counted.steps,
-    })
-}
-
-/// A plan of a program on these ranks by which places go in their order: each block of `block` places, and each place,
-/// has a colour of its own. So no place's targets are looked at; but no two places may begin together.
-///
-/// It is refused and fails as `plan` does.
-pub fn plan_in_turn(
-    alloc: Global,
-    bound: &Bound,
-    ranks: &[RankMesh],
-    halos: &Halos,
-    block: u32,
-) -> Result<Plan, PlanRefusal>
-    requires fits { Fits (bound_of bound.now) }
-    requires ranks { Distributed (bound_of bound.now).mesh halos.now ranks.now }
-    requires block { 0 < block }
-    ensures proper { IfOk result (λ p. Proper (bound_of bound.now) ranks.now (plan_of p)) }
-    ensures turns { IfOk result (λ p. HasTurns (bound_of bound.now) ranks.now (plan_of p)) }
-    ensures block { IfOk result (λ p. p.block ≡ block) }
-    ensures steps { IfOk result (λ p. p.steps ≡ program_steps (bound_of bound.now) ranks.now) }
-    ensures few { IfOk result (λ p. p.steps ≤ max_steps) }
-    ensures refused { IfErr result (λ e. Refuses (program_steps (bound_of bound.now) ranks.now) e) }
-{
-    bound.mesh.is_in_range();
-    let counted = counted_items(alloc, bound, ranks, halos)?;
-    let sites = site_plans(alloc, bound, ranks, PlanKind::InTurn { size: block })?;
+    let sites = site_plans(alloc, bound, ranks, block)?;
     Ok(Plan {
         ranks: ranks.len() as u32,
         block,

@@ -13,16 +13,14 @@ ghost use Rattle.loop_plan.specs.Alike.{AreMade};
 ghost use Rattle.loop_plan.specs.Needs.{IsLoopOf, IsInRange};
 ghost use Rattle.loop_plan.specs.Distributed.{Distributed};
 ghost use Rattle.loop_plan.specs.Places.{reducing, runs_free, is_run, HaveSets};
-ghost use Rattle.loop_plan.specs.SitePlans.{IsLeastPlan, IsPlanOf, ArePlansOf, block_of};
-ghost use Rattle.loop_plan.specs.Turns.{IsTurnPlan};
+ghost use Rattle.loop_plan.specs.SitePlans.{IsLeastPlan, ArePlans};
 
 use crate::alike::{PlanKey, plan_key, same_key};
 use crate::exchange::{LoopRun, args_of, run_at};
 use crate::needs::is_merged;
 use crate::places::places_by_rank;
 use crate::shared::SitePlans;
-use crate::turns::turns_by_rank;
-use crate::types::{PlanKind, SitePlan};
+use crate::types::SitePlan;
 use bound_program::{Arg, Bound, Mesh};
 use colouring::{Colours, IncArg, colour};
 use local_mesh::RankMesh;
@@ -123,46 +121,6 @@ fn least_plan(
     Ok(SitePlan { places, colours })
 }
 
-// The plan of a loop whose places go in their order.
-fn turn_plan(
-    alloc: Global,
-    bound: &Bound,
-    ranks: &[RankMesh],
-    site: u32,
-    size: u32,
-) -> Result<SitePlan, OutOfMemory>
-    requires fits { Fits (bound_of bound.now) }
-    requires sets { HaveSets (bound_of bound.now).mesh ranks.now }
-    requires site { site < length (bound_of bound.now).sites }
-    requires size { 0 < size }
-    ensures { IfOk result (λ p. IsTurnPlan (bound_of bound.now) ranks.now size site (site_plan_of p)) }
-{
-    let places = places_by_rank(alloc, bound, ranks, site)?;
-    let colours = turns_by_rank(alloc, &places, size)?;
-    Ok(SitePlan { places, colours })
-}
-
-// The plan of a loop, of this kind.
-fn site_plan(
-    alloc: Global,
-    bound: &Bound,
-    ranks: &[RankMesh],
-    site: u32,
-    kind: PlanKind,
-) -> Result<SitePlan, OutOfMemory>
-    requires fits { Fits (bound_of bound.now) }
-    requires ranks { (h : Halos) × Distributed (bound_of bound.now).mesh h ranks.now }
-    requires sets { HaveSets (bound_of bound.now).mesh ranks.now }
-    requires site { site < length (bound_of bound.now).sites }
-    requires block { 0 < block_of kind }
-    ensures { IfOk result (λ p. IsPlanOf (bound_of bound.now) ranks.now kind site (site_plan_of p)) }
-{
-    match kind {
-        PlanKind::Coloured { size } => least_plan(alloc, bound, ranks, site, size),
-        PlanKind::InTurn { size } => turn_plan(alloc, bound, ranks, site, size),
-    }
-}
-
 // Plans that are being made, each with what it is made from.
 #[derive(Drop)]
 struct Making {
@@ -185,44 +143,43 @@ fn add_plan(
     bound: &Bound,
     ranks: &[RankMesh],
     site: u32,
-    kind: PlanKind,
+    block: u32,
 ) -> Result<(), OutOfMemory>
     requires fits { Fits (bound_of bound.now) }
     requires ranks { (h : Halos) × Distributed (bound_of bound.now).mesh h ranks.now }
     requires sets { HaveSets (bound_of bound.now).mesh ranks.now }
     requires run { runs_free (bound_of bound.now) site ≡ true }
     requires site { site < length (bound_of bound.now).sites }
-    requires block { 0 < block_of kind }
-    requires before { AreMade (bound_of bound.now) kind ranks.now site making.old.plans making.old.keys.items }
-    ensures { OnOk result (AreMade (bound_of bound.now) kind ranks.now (site + 1) making.new.plans making.new.keys.items) }
+    requires block { 0 < block }
+    requires before { AreMade (bound_of bound.now) block ranks.now site making.old.plans making.old.keys.items }
+    ensures { OnOk result (AreMade (bound_of bound.now) block ranks.now (site + 1) making.new.plans making.new.keys.items) }
 {
-    let key = plan_key(alloc, bound, site, kind)?;
+    let key = plan_key(alloc, bound, site)?;
     if let Some(slot) = same_key(&making.keys, &key) {
         making.plans.share(site, slot)?;
         return Ok(());
     }
-    let plan = site_plan(alloc, bound, ranks, site, kind)?;
+    let plan = least_plan(alloc, bound, ranks, site, block)?;
     making.plans.add(site, plan)?;
     making.keys.push(key)?;
     Ok(())
 }
 
-/// The plans of the loops that run as Free ones, of this kind.
+/// The plans of the loops that run as Free ones: their places on each rank, and the least colours of these in blocks of
+/// `block` places. Loops whose plans are made from the same share one.
 pub fn site_plans(
     alloc: Global,
     bound: &Bound,
     ranks: &[RankMesh],
-    kind: PlanKind,
+    block: u32,
 ) -> Result<SitePlans, OutOfMemory>
     requires fits { Fits (bound_of bound.now) }
     requires few { length (bound_of bound.now).sites < 2 ^ 32 }
     requires range { IsInRange (bound_of bound.now) }
     requires ranks { (h : Halos) × Distributed (bound_of bound.now).mesh h ranks.now }
     requires sets { HaveSets (bound_of bound.now).mesh ranks.now }
-    requires block { 0 < block_of kind }
-    ensures { IfOk result (λ v.
-        ArePlansOf (bound_of bound.now) (IsPlanOf (bound_of bound.now) ranks.now kind) (length (bound_of bound.now).sites)
-        (entries_of v)) }
+    requires block { 0 < block }
+    ensures { IfOk result (λ v. ArePlans (bound_of bound.now) ranks.now block (length (bound_of bound.now).sites) (entries_of v)) }
 {
     let runs = running_loops(alloc, bound)?;
     let mut making = Making {
@@ -231,7 +188,7 @@ pub fn site_plans(
     };
     for site in 0..bound.sites.len() as u32 {
         if is_running(&runs, site) {
-            add_plan(&mut making, alloc, bound, ranks, site, kind)?;
+            add_plan(&mut making, alloc, bound, ranks, site, block)?;
         }
     }
     Ok(making.plans)

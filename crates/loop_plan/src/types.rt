@@ -36,15 +36,6 @@ pub struct Plan {
     pub steps: u64,
 }
 
-/// Which colours a plan has.
-#[derive(Clone, Copy, PartialEq, Eq, Debug)]
-pub enum PlanKind {
-    /// The least colours, in blocks of so many places.
-    Coloured { size: u32 },
-    /// A colour of its own for each block of so many places, and for each place, so that places go in their order.
-    InTurn { size: u32 },
-}
-
 /// Why there is no plan.
 #[derive(Clone, Copy, PartialEq, Eq, Debug, Error)]
 pub enum PlanRefusal {

@@ -1,5 +1,5 @@
 -- The chain of judgements from a bound program on, as the code goes along it: what is answered from each of its parts on.
-use Rattle.std.specs.Prelude.{◌≡◌, ℕ, Bool, false, List, Option, Some, None}
+use Rattle.std.specs.Prelude.{◌≡◌, ℕ, List, Option, Some, None}
 use Rattle.op_outside.specs.Outside.{Files}
 use Rattle.mesh_decl.specs.declared.text.entry.Form.{Form}
 use Rattle.mesh_decl.specs.Canonical.{canonical}
@@ -10,7 +10,7 @@ use Rattle.bound_program.specs.Values.{bound_of}
 use Rattle.loop_plan.specs.Planned.{PlannedValue}
 use Rattle.command_words.specs.Refusal.{Refusal}
 use Rattle.command_words.specs.Lines as lines
-use Rattle.command_words.specs.Words.{PlanJob, Check, ShowsPlan, ShowsSchedule, RunsPlan, Standard, Options, group_of}
+use Rattle.command_words.specs.Words.{PlanJob, Options, group_of}
 use Rattle.answers.specs.Said.{SaysStep, SaysEnd}
 use Rattle.answers.specs.Judgements.{TreeIs, TranslationIs, RestorationIs, EntriesAre, Chosen, Planned, Order, OrderOf, outline_of, StepsOf}
 use Rattle.answers.specs.Answers.{given, planned_answer}
@@ -28,18 +28,6 @@ StepsAnswers j o c p order = given (StepsOf (outline_of c.program p) (group_of o
 -- what is answered of a plan
 abbrev pub ScheduleAnswers : PlanJob → Options → Chosen → Planned → Files → lines.Answer → Type 0
 ScheduleAnswers j o c p files = given (OrderOf o.schedule files) (StepsAnswers j o c p)
-
--- a job that tells neither the colours of a plan nor the order of its steps
-abbrev pub IsUntold : PlanJob → (dumps : Bool) → Type 0
-IsUntold Check dumps = Unit {0}
-IsUntold ShowsPlan dumps = ⊥
-IsUntold ShowsSchedule dumps = ⊥
-IsUntold RunsPlan dumps = dumps ≡ false
-
--- such a job in the standard order: its answer is the same for all plans with as many steps
-pub record GoesInTurn (j : PlanJob) (o : Options) : Type 0 where
-  pub standard : o.schedule ≡ Standard
-  pub untold : IsUntold j o.dumps
 
 -- what is answered over the text of a mesh that is written again
 abbrev pub RewriteAnswers : Form → List ℕ → lines.Answer → Type 0

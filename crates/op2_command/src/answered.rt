@@ -30,7 +30,7 @@ use job_inputs::{
 use mesh_decl::text::{Form, write_mesh};
 use op_num::OutOfMemory;
 use op_outside::Shelf;
-use par_exec::{Crew, Gate};
+use par_exec::{Crew, Gate, Phase};
 use std::alloc::Global;
 use std::marker::Sync;
 use std::thread::Threads;
@@ -55,7 +55,7 @@ fn awaited<'a>(
 }
 
 // The answer of a job on the plan of a program over a mesh.
-fn to_plan<'a, F: Shelf, R: Threads + Sync, G: Gate>(
+fn to_plan<'a, F: Shelf, R: Threads + Sync, G: Gate + Sync>(
     crew: &Crew<'_, R, G>,
     shelf: &mut F,
     job: PlanJob,
@@ -76,7 +76,8 @@ fn to_plan<'a, F: Shelf, R: Threads + Sync, G: Gate>(
 {
     some_files_are_as_seen();
     let mut kept = awaited(crew.alloc, options, input)?;
-    let bound = bound_input(crew.alloc, shelf, &mut kept, input)?;
+    let bound = bound_input(crew.alloc, shelf, &mut kept, input, crew.gate)?;
+    crew.gate.phase(Phase::Bound);
     planned(crew, shelf, &mut kept, job, options, bound)
 }
 
@@ -96,12 +97,13 @@ fn awaited_by_chains<'a>(
 }
 
 // The answer of a job on the chains of a program over a mesh.
-fn to_chains<'a, F: Shelf>(
+fn to_chains<'a, F: Shelf, G: Gate>(
     alloc: Global,
     shelf: &mut F,
     job: ChainJob,
     options: &ChainOptions<'a>,
     input: Input<'a>,
+    gate: &G,
 ) -> Result<Answer, Halt<'a>>
     requires input { All (λ name. F.lends shelf.old name) (names_from (input_in input)) }
     requires parting { All (λ name. F.lends shelf.old name) (names_by (chain_options_in options.now).parting) }
@@ -112,7 +114,8 @@ fn to_chains<'a, F: Shelf>(
 {
     some_files_are_as_seen();
     let mut kept = awaited_by_chains(alloc, options, input)?;
-    let bound = bound_input(alloc, shelf, &mut kept, input)?;
+    let bound = bound_input(alloc, shelf, &mut kept, input, gate)?;
+    gate.phase(Phase::Bound);
     chained(alloc, shelf, &mut kept, job, options, &bound)
 }
 
@@ -142,7 +145,7 @@ fn converted<'a, F: Shelf>(
 }
 
 // The answer to what is asked for.
-fn to_asked<'a, F: Shelf, R: Threads + Sync, G: Gate>(
+fn to_asked<'a, F: Shelf, R: Threads + Sync, G: Gate + Sync>(
     rt: &R,
     alloc: Global,
     shelf: &mut F,
@@ -172,7 +175,7 @@ fn to_asked<'a, F: Shelf, R: Threads + Sync, G: Gate>(
             job,
             options,
             input,
-        } => to_chains(alloc, shelf, job, &options, input),
+        } => to_chains(alloc, shelf, job, &options, input, gate),
         Asked::Convert { form, mesh } => converted(alloc, shelf, form, mesh),
         Asked::Translate { source } => translated(alloc, shelf, source),
         Asked::Restore { source } => restored(alloc, shelf, source),
@@ -195,7 +198,7 @@ fn asked_by<'a>(alloc: Global, words: &'a Vec<String>) -> Result<Asked<'a>, Halt
 }
 
 // The answer to the words, where nothing is refused.
-fn to_words<'a, F: Shelf, R: Threads + Sync, G: Gate>(
+fn to_words<'a, F: Shelf, R: Threads + Sync, G: Gate + Sync>(
     rt: &R,
     alloc: Global,
     words: &'a Vec<String>,
@@ -210,8 +213,8 @@ fn to_words<'a, F: Shelf, R: Threads + Sync, G: Gate>(
     to_asked(rt, alloc, shelf, asked, gate)
 }
 
-/// The answer to the words, or what failed before there is one. `gate` is told of each element that a group begins.
-pub fn answer_to<'a, F: Shelf, R: Threads + Sync, G: Gate>(
+/// The answer to the words, or what failed before there is one. `gate` is told of what a run does.
+pub fn answer_to<'a, F: Shelf, R: Threads + Sync, G: Gate + Sync>(
     rt: &R,
     alloc: Global,
     words: &'a Vec<String>,

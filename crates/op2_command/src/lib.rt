@@ -9,7 +9,6 @@
 mod answered;
 mod chains;
 mod faults;
-mod in_turn;
 mod plan_task;
 mod plans;
 mod runs;

@@ -1,6 +1,6 @@
 // The plan of a bound program: which of its items run, their plan, the order of its steps, and what is written.
 
-ghost use Rattle.std.specs.Prelude.{◌≡◌, ◌≤◌, ◌++◌, List, All, length, true, Ok, IfOk};
+ghost use Rattle.std.specs.Prelude.{◌≡◌, ◌≤◌, ◌++◌, List, All, length, Ok, IfOk};
 ghost use Rattle.op_outside.specs.Outside.{Rose};
 ghost use Rattle.job_inputs.specs.Readings.{AreNext};
 ghost use Rattle.bound_program.specs.Values.{bound_of};
@@ -19,9 +19,8 @@ ghost use Rattle.command_words.specs.Halts.{answer_of};
 ghost use Rattle.job_inputs.specs.Inputs.{chosen_of};
 ghost use Rattle.job_inputs.specs.Chains.{AnswersBy, AnswersFrom};
 ghost use Rattle.job_inputs.specs.Plans.{planned_of};
-ghost use Rattle.op2_command.specs.Chains.{chosen_in, GoesInTurn, StepsAnswers, ScheduleAnswers};
+ghost use Rattle.op2_command.specs.Chains.{chosen_in, StepsAnswers, ScheduleAnswers};
 
-use crate::in_turn::goes_in_turn;
 use crate::plan_task::PlanTask;
 use crate::runs::run_on;
 use crate::schedules::{end_line, judged, lines_of};
@@ -59,7 +58,7 @@ fn sizes_text(alloc: Global, bound: &Bound, plan: &Plan) -> Result<Vec<u8>, OutO
 }
 
 // What a job answers of a plan whose steps are taken in this order.
-fn planned_answer<R: Threads + Sync, G: Gate>(
+fn planned_answer<R: Threads + Sync, G: Gate + Sync>(
     crew: &Crew<'_, R, G>,
     task: &PlanTask<'_, '_>,
     planned: &Planned<'_>,
@@ -89,7 +88,7 @@ fn planned_answer<R: Threads + Sync, G: Gate>(
 }
 
 // The answer of a job on a plan whose steps are taken as the text of a schedule has them.
-fn by_text<'a, R: Threads + Sync, G: Gate>(
+fn by_text<'a, R: Threads + Sync, G: Gate + Sync>(
     crew: &Crew<'_, R, G>,
     task: &PlanTask<'_, '_>,
     planned: &Planned<'_>,
@@ -111,7 +110,7 @@ fn by_text<'a, R: Threads + Sync, G: Gate>(
 }
 
 // The answer of a job on a plan whose steps are taken in the order that is asked for.
-fn scheduled<'a, F: Shelf, R: Threads + Sync, G: Gate>(
+fn scheduled<'a, F: Shelf, R: Threads + Sync, G: Gate + Sync>(
     crew: &Crew<'_, R, G>,
     shelf: &mut F,
     kept: &mut Kept<'a>,
@@ -121,7 +120,6 @@ fn scheduled<'a, F: Shelf, R: Threads + Sync, G: Gate>(
     requires lent { All (λ name. F.lends shelf.old name) (names_at (options_in task.now.options.now).schedule) }
     requires next { AreNext (names_at (options_in task.now.options.now).schedule) kept.old }
     requires within { AreWithin (options_in task.now.options.now) }
-    requires turn { task.now.in_turn ≡ true → GoesInTurn (job_in task.now.job) (options_in task.now.options.now) }
     requires obeyed { AccessesAre (bound_of planned.now.bound) (Ok tt) }
     requires start { StartsInRange (bound_of planned.now.bound) }
     ensures { AnswersFrom (F.told shelf.old) kept.old
@@ -131,7 +129,7 @@ fn scheduled<'a, F: Shelf, R: Threads + Sync, G: Gate>(
     schedule_steps::drawn_exists();
     match task.options.schedule {
         Schedule::Standard => {
-            let group = task.group();
+            let group = task.options.group();
             let order = Order::Standard { group };
             Ok(planned_answer(crew, task, planned, &order)?)
         }
@@ -149,7 +147,7 @@ fn scheduled<'a, F: Shelf, R: Threads + Sync, G: Gate>(
 
 // The answer of a job on the plan of the items that run. The files of a partition, a plan and a schedule, where the
 // options name them, are the next in `kept`.
-fn chosen_answer<'a, F: Shelf, R: Threads + Sync, G: Gate>(
+fn chosen_answer<'a, F: Shelf, R: Threads + Sync, G: Gate + Sync>(
     crew: &Crew<'_, R, G>,
     shelf: &mut F,
     kept: &mut Kept<'a>,
@@ -170,20 +168,18 @@ fn chosen_answer<'a, F: Shelf, R: Threads + Sync, G: Gate>(
         (λ files. ChosenAnswers (job_in job) (options_in options.now) files (chosen_of chosen.now))
         (Rose (F.faults shelf.old) (F.faults shelf.new)) result }
 {
-    let in_turn = goes_in_turn(crew.alloc, job, options, &chosen.bound)?;
-    let planned = planned_on(crew.alloc, shelf, kept, options, &chosen.bound, in_turn)?;
+    let planned = planned_on(crew.alloc, shelf, kept, options, &chosen.bound, crew.gate)?;
     let task = PlanTask {
         job,
         options,
         first: chosen.first,
-        in_turn,
     };
     scheduled(crew, shelf, kept, &task, &planned)
 }
 
 /// The answer of a job on the plan of a bound program with these options. The files of a state, a partition, a plan and
 /// a schedule, where the options name them, are the next in `kept`.
-pub fn planned<'a, F: Shelf, R: Threads + Sync, G: Gate>(
+pub fn planned<'a, F: Shelf, R: Threads + Sync, G: Gate + Sync>(
     crew: &Crew<'_, R, G>,
     shelf: &mut F,
     kept: &mut Kept<'a>,

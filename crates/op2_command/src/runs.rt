@@ -46,7 +46,7 @@ fn ran(alloc: Global, outcome: Outcome, first: u32) -> Result<Answer, OutOfMemor
 /// The answer of the run of a program's items on ranks, by a plan for them whose steps are taken in this order: what
 /// running each loop one element after another prints, and its first fault, with a dump of the memories behind it where
 /// the options ask for one. An error is want of memory.
-pub fn run_on<R: Threads + Sync, G: Gate>(
+pub fn run_on<R: Threads + Sync, G: Gate + Sync>(
     crew: &Crew<'_, R, G>,
     task: &PlanTask<'_, '_>,
     planned: &Planned<'_>,

@@ -46,9 +46,9 @@ pub fn op2<R: Threads + Sync, F: Shelf, O: Sink, E: Sink>(
     op2_gated(rt, alloc, words, shelf, out, err, &Open)
 }
 
-/// Does what [`op2`] does, with a gate that is told of each element that a group begins, on the thread that runs its
-/// kernel, by its number in the group.
-pub fn op2_gated<R: Threads + Sync, F: Shelf, O: Sink, E: Sink, G: Gate>(
+/// Does what [`op2`] does, with a gate that is told of what a run does, in the order in which it does it: its phases, and
+/// of the run of a plan the items, the messages, the joins and the elements, these on the thread that runs their kernel.
+pub fn op2_gated<R: Threads + Sync, F: Shelf, O: Sink, E: Sink, G: Gate + Sync>(
     rt: &R,
     alloc: Global,
     words: &Vec<String>,

@@ -1,8 +1,7 @@
 // Gates on calls of `op2`: what they are told, and that two workers meet in one.
 
-use op_outside::{MemoryShelf, MemorySink};
-use op2_command::op2_gated;
-use par_exec::Gate;
+use crate::calls::{Ended, called, wide};
+use par_exec::{Gate, Phase};
 use std::alloc::{AllocError, Global};
 use std::marker::Sync;
 use std::sync::atomic::{AtomicU64, Ordering};
@@ -54,8 +53,6 @@ const TWO: &str = "op2mesh 1 int n 2 ints a0 2 5 7 done";
 
 const SIXTY_FOUR: &str = "op2mesh 2 int n 64 ints a0 64 64*0 done";
 
-const HUNDRED: &str = "op2mesh 2 int n 100 ints a0 100 100*0 done";
-
 const TWO_THOUSAND: &str = "op2mesh 2 int n 2000 ints a0 2000 2000*0 done";
 
 const THOUSANDS: &str = "op2mesh 2 int n 20000 ints a0 20000 20000*0 done";
@@ -73,15 +70,8 @@ join 2
 done
 ";
 
-// How a call ended: its status, and what it wrote to the output.
-#[derive(Drop)]
-struct Ended {
-    status: u8,
-    out: MemorySink,
-}
-
 // A run of the loop over a mesh with these options, where `t` holds the schedule of both elements at once.
-fn gated<R: Threads + Sync, G: Gate>(
+fn gated<R: Threads + Sync, G: Gate + Sync>(
     rt: &R,
     alloc: Global,
     options: &[&str],
@@ -92,7 +82,7 @@ fn gated<R: Threads + Sync, G: Gate>(
 }
 
 // A run of a source over a mesh with these options.
-fn gated_source<'a, R: Threads + Sync, G: Gate>(
+fn gated_source<'a, R: Threads + Sync, G: Gate + Sync>(
     rt: &R,
     alloc: Global,
     source: &'a str,
@@ -100,22 +90,9 @@ fn gated_source<'a, R: Threads + Sync, G: Gate>(
     mesh: &'a str,
     gate: &G,
 ) -> Result<Ended, AllocError> {
-    let mut shelf = MemoryShelf::new(alloc, Vec::new(alloc));
-    for (name, text) in [("s.c", source), ("m.mesh", mesh), ("t", TOGETHER)] {
-        let bytes = text.as_bytes().to_vec(alloc)?;
-        shelf.hold(String::from_str(alloc, name)?, bytes)?;
-    }
-    let mut words = Vec::new(alloc);
-    for word in ["op2", "run", "s.c", "m.mesh"] {
-        words.push(String::from_str(alloc, word)?)?;
-    }
-    for word in options {
-        words.push(String::from_str(alloc, word)?)?;
-    }
-    let mut out = MemorySink::new(alloc, 100_000, Vec::new(alloc))?;
-    let mut err = MemorySink::new(alloc, 1000, Vec::new(alloc))?;
-    let status = op2_gated(rt, alloc, &words, &mut shelf, &mut out, &mut err, gate);
-    Ok(Ended { status, out })
+    let files = [("s.c", source), ("m.mesh", mesh), ("t", TOGETHER)];
+    let words = ["run", "s.c", "m.mesh"];
+    called(rt, alloc, &words, options, &files, gate)
 }
 
 // Notes the numbers that enter, one decimal place each, with 1 added.
@@ -223,9 +200,10 @@ fn ones(alloc: Global, count: u32) -> Result<String, AllocError> {
 fn two_workers_share_a_group_of_the_standard_order(rt: HostRuntime) -> Result<(), Fail> {
     let alloc = rt.alloc();
     let printed = ones(alloc, 64)?;
+    let source = wide(alloc)?;
     let gate = Meeting::new(63);
     let options: &[&str] = &["--workers", "2"];
-    let ended = gated(&rt, alloc, options, SIXTY_FOUR, &gate)?;
+    let ended = gated_source(&rt, alloc, source.as_str(), options, SIXTY_FOUR, &gate)?;
     assert_eq!(rt; ended.status, 0);
     assert_eq!(rt; ended.out.bytes(), printed.as_bytes());
     assert_eq!(rt; gate.met.load(Ordering::SeqCst), 2);
@@ -255,27 +233,12 @@ impl Gate for Count {
     }
 }
 
+// On one rank with two workers the first group of a run is shared; the other elements are a round, and in it come batches
+// where their kernel is long. The output is that of one worker.
 #[test]
-fn groups_behind_the_first_run_in_place(rt: HostRuntime) -> Result<(), Fail> {
+fn many_elements_come_in_a_round(rt: HostRuntime) -> Result<(), Fail> {
     let alloc = rt.alloc();
-    let printed = ones(alloc, 100)?;
-    let gate = Count {
-        told: AtomicU64::new(0),
-    };
-    let options: &[&str] = &["--workers", "2"];
-    let ended = gated(&rt, alloc, options, HUNDRED, &gate)?;
-    assert_eq!(rt; ended.status, 0);
-    assert_eq!(rt; ended.out.bytes(), printed.as_bytes());
-    assert_eq!(rt; gate.told.load(Ordering::SeqCst), 64);
-    Ok(())
-}
-
-// On one rank with two workers: no group where a loop over many elements has a short kernel, and one round where it has
-// a long one; the output is that of one worker.
-#[test]
-fn many_elements_come_in_no_groups(rt: HostRuntime) -> Result<(), Fail> {
-    let alloc = rt.alloc();
-    for (source, told) in [(BUMP, 0), (TURNS, 1)] {
+    for (source, told) in [(BUMP, 64 + 1), (TURNS, 64 + 1 + 31)] {
         let gate = Count {
             told: AtomicU64::new(0),
         };
@@ -287,6 +250,90 @@ fn many_elements_come_in_no_groups(rt: HostRuntime) -> Result<(), Fail> {
         assert_eq!(rt; two.status, 0);
         assert_eq!(rt; two.out.bytes(), one.out.bytes());
         assert_eq!(rt; gate.told.load(Ordering::SeqCst), told);
+    }
+    Ok(())
+}
+
+// Holds the batch that begins with the place 64, the first behind the first group, until the one that begins with the
+// place 1,024 has begun, and that one until the first has.
+#[derive(Drop)]
+struct Batches {
+    meeting: Meeting,
+}
+
+impl Gate for Batches {
+    fn enter(&self, _index: usize) {}
+
+    fn begin(&self, _item: u32, _rank: u32, places: &[u32]) {
+        match places.first() {
+            Some(64) => self.meeting.enter(0),
+            Some(1024) => self.meeting.enter(1024),
+            _ => {}
+        }
+    }
+}
+
+#[test]
+fn two_batches_of_a_rank_meet(rt: HostRuntime) -> Result<(), Fail> {
+    let gate = Batches {
+        meeting: Meeting::new(1024),
+    };
+    let options: &[&str] = &["--workers=2"];
+    let ended = gated_source(&rt, rt.alloc(), TURNS, options, TWO_THOUSAND, &gate)?;
+    assert_eq!(rt; ended.status, 0);
+    assert_eq!(rt; gate.meeting.met.load(Ordering::SeqCst), 2);
+    Ok(())
+}
+
+// Notes phases and items, a decimal place each: phases 1 to 4, an item's begin 5 with its loop's number and its count
+// behind it, and its end 6.
+#[derive(Drop)]
+struct Phases {
+    seen: AtomicU64,
+}
+
+impl Phases {
+    fn note(&self, number: u64) {
+        let seen = self.seen.load(Ordering::SeqCst);
+        self.seen.store(seen.wrapping_mul(10).wrapping_add(number), Ordering::SeqCst);
+    }
+}
+
+impl Gate for Phases {
+    fn enter(&self, _index: usize) {}
+
+    fn phase(&self, phase: Phase) {
+        self.note(match phase {
+            Phase::Read => 1,
+            Phase::Bound => 2,
+            Phase::Distributed => 3,
+            Phase::Planned => 4,
+        });
+    }
+
+    fn item_begins(&self, _item: u32, site: Option<u32>, count: u32) {
+        self.note(5);
+        if let Some(site) = site {
+            self.note(site as u64);
+            self.note(count as u64);
+        }
+    }
+
+    fn item_ends(&self, _item: u32) {
+        self.note(6);
+    }
+}
+
+// A loop over two elements, and two statements.
+#[test]
+fn phases_and_items_are_told(rt: HostRuntime) -> Result<(), Fail> {
+    for ranks in ["--ranks=1", "--ranks=2"] {
+        let gate = Phases {
+            seen: AtomicU64::new(0),
+        };
+        let ended = gated(&rt, rt.alloc(), &[ranks], TWO, &gate)?;
+        assert_eq!(rt; ended.status, 0);
+        assert_eq!(rt; gate.seen.load(Ordering::SeqCst), 123_450_265_656);
     }
     Ok(())
 }

@@ -10,9 +10,11 @@ ghost use denote.Param.Send.{IsSync};
 ghost use Rattle.par_exec.specs.Windows.{replaced, EachWindow};
 
 mod crew;
+mod gate;
 mod parts;
 
 pub use crew::Crew;
+pub use gate::{Gate, ItemGate, Open, Phase};
 pub use parts::{PartJob, run_parts};
 use std::marker::Sync;
 use std::thread::{Threads, join_mut};
@@ -31,27 +33,13 @@ pub trait Job: Sync {
         ensures { window.new ≡ new_window self.now index window.old };
 }
 
-/// Is told of each job just before it runs, on the thread that runs it.
-pub trait Gate: Sync {
-    /// The job with number `index` is about to run.
-    fn enter(&self, index: usize);
-}
-
-/// The gate that does nothing.
-#[derive(Clone, Copy, Debug)]
-pub struct Open;
-
-impl Gate for Open {
-    fn enter(&self, _index: usize) {}
-}
-
 /// Runs job i on window i, for each window of the buffer, and tells the crew's gate of i just before.
 ///
 /// `staging` is cut into windows of `stride` cells, at least 1, which divides its length; they are
 /// numbered from 0. With more than one worker and more than one window, the buffer is split into
 /// halves that run by fork and join, the workers shared out between them. The result is the same
 /// for every crew. Takes no memory.
-pub fn run_group<R: Threads + Sync, J: Job, G: Gate>(
+pub fn run_group<R: Threads + Sync, J: Job, G: Gate + Sync>(
     crew: &Crew<'_, R, G>,
     staging: &mut [i32],
     stride: usize,
@@ -82,7 +70,7 @@ struct WindowJobs<'a, J, G> {
 
 // Runs job i on window i, where the buffer has `count` windows from number `first` on, by so many workers.
 #[cycle(windows)]
-fn run_windows<R: Threads + Sync, J: Job, G: Gate>(
+fn run_windows<R: Threads + Sync, J: Job, G: Gate + Sync>(
     threads: &R,
     workers: u32,
     work: &WindowJobs<'_, J, G>,

@@ -16,10 +16,8 @@ pub trait PartJob<T>: Sync {
     /// What the job may make of a part, by its number.
     ghost makes: { Self → ℕ → T → T → Type 0 };
 
-    /// Works on the part with number `index`, in place, by so many workers, at least 1, that it has to itself.
-    fn run<R: Threads + Sync>(&self, threads: &R, workers: u32, index: usize, part: &mut T)
-        requires shared { IsSync R.row }
-        requires workers { 0 < workers }
+    /// Works on the part with number `index`, in place. The gate is that of all parts.
+    fn run<G: Gate>(&self, gate: &G, index: usize, part: &mut T)
         requires takes { takes self.now index part.old }
         ensures { makes self.now index part.old part.new };
 }
@@ -27,9 +25,9 @@ pub trait PartJob<T>: Sync {
 /// Runs job i on part i, for each part of the list, and tells the gate of i just before; the parts are numbered from 0.
 ///
 /// With more than one worker and more than one part, the list is split into halves that run by fork and join, the
-/// workers shared out between them; a part has those to itself that are left for it. What is said of each part holds
-/// for every number of workers, at least 1, and every gate. Takes no memory.
-pub fn run_parts<R: Threads + Sync, T: Send, J: PartJob<T>, G: Gate>(
+/// workers shared out between them. What is said of each part holds for every number of workers, at least 1, and every
+/// gate. Takes no memory.
+pub fn run_parts<R: Threads + Sync, T: Send, J: PartJob<T>, G: Gate + Sync>(
     threads: &R,
     workers: u32,
     gate: &G,
@@ -45,7 +43,7 @@ pub fn run_parts<R: Threads + Sync, T: Send, J: PartJob<T>, G: Gate>(
 
 // Runs job i on part i, where the parts of the list are numbered from `first` on.
 #[cycle(parts)]
-fn run_from<R: Threads + Sync, T: Send, J: PartJob<T>, G: Gate>(
+fn run_from<R: Threads + Sync, T: Send, J: PartJob<T>, G: Gate + Sync>(
     threads: &R,
     workers: u32,
     first: usize,
@@ -64,7 +62,7 @@ fn run_from<R: Threads + Sync, T: Send, J: PartJob<T>, G: Gate>(
     }
     if count == 1 {
         gate.enter(first);
-        jobs.run(threads, workers, first, &mut parts[0]);
+        jobs.run(gate, first, &mut parts[0]);
         return;
     }
     let low = count / 2;

@@ -1,5 +1,5 @@
 -- Shares that are put into the state rank after rank are those of all ranks.
-use Rattle.std.proofs.Common.{◌≡◌, ℕ, zero, suc, ◌+◌, ◌<◌, ◌≤◌, ℤ, refl, sym, ap, ◌∙◌, ⊎_elim, arith, List, [], ◌∷◌, ◌++◌, map, length, take, get_or, set, get_or-set_same, get_or-set_other, Option, None}
+use Rattle.std.proofs.Common.{◌≡◌, ℕ, zero, suc, ◌<◌, ◌≤◌, refl, sym, ap, ◌∙◌, ⊎_elim, arith, List, [], ◌∷◌, ◌++◌, map, length, take, get_or, set, get_or-set_same, get_or-set_other, Option, None}
 use Rattle.std.proofs.lemmas.List.{ext_get_or, get_or-map, length-map, take_all}
 use Rattle.std.proofs.lemmas.Bool.{cases_lt}
 use Rattle.schedule_model.specs.Sequential.{Stop}

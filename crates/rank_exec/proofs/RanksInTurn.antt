@@ -1,5 +1,5 @@
 -- Ranks whose elements ran from no fault on, each by itself: all of them were begun and ended, rank after rank.
-use Rattle.std.proofs.Common.{◌≡◌, ℕ, zero, suc, ◌+◌, ◌<◌, ◌≤◌, ℤ, refl, sym, ap, ap₂, subst, ◌∙◌, arith, List, [], ◌∷◌, ◌++◌, length, get_or-set_other, append_assoc, append-nil, ◌-◌, Option}
+use Rattle.std.proofs.Common.{◌≡◌, ℕ, zero, suc, ◌+◌, ◌<◌, ◌≤◌, ℤ, refl, sym, ap, ap₂, subst, ◌∙◌, arith, List, [], ◌++◌, length, get_or-set_other, append_assoc, append-nil, ◌-◌, Option}
 use Rattle.std.proofs.lemmas.List.{take_all, length-set}
 use Rattle.schedule_steps.specs.declared.step.Step.{Step}
 use Rattle.schedule_model.specs.Sequential.{Stop}

@@ -1,6 +1,5 @@
 -- Cells of a dat that stand side by side.
 use Rattle.std.proofs.Common.{◌≡◌, ◌<◌, ◌≤◌, ◌+◌, ℕ, zero, suc, [], ◌∷◌, ◌++◌, refl, sym, ap, ap₂, ◌∙◌, subst, arith, ⊎_elim, ◌-◌, ◌*◌, pos, length}
-use Rattle.std.specs.Prelude.{◌⊎◌}
 use Rattle.std.specs.List.{flat_map}
 use Rattle.std.proofs.lemmas.Bool.{cases_lt}
 use Rattle.std.proofs.lemmas.List.{flat_map_more, length-map}

@@ -16,6 +16,7 @@ use crate::run_room::RunRoom;
 use crate::sharing::{come_in_rounds, groups_run_in_place, may_come_in_rounds};
 use crate::stream::{Steps, Told, next_told};
 use crate::told::run_told;
+use crate::under_way::{go_on, item_of};
 use kernel_model::types::KernelFault;
 use op_num::OutOfMemory;
 use par_exec::{Crew, Gate};
@@ -66,18 +67,19 @@ fn comes_in_round(
 /// program, else one after another in place. Closed groups come so only as rounds, or behind the end of an element that
 /// isn't worth the workers; those of other items are better begun as groups.
 ///
-/// `before` is the step; for an element that was begun and ended in place, its begin.
+/// `before` is the step; for an element that was begun and ended in place, its begin. Answers the item of the last
+/// element, or of the step where none comes; the gate is told where one comes to another item.
 ///
 /// # Errors
 /// Want of memory alone.
-pub fn run_behind<R: Threads + Sync, G: Gate, S: Steps>(
+pub fn run_behind<R: Threads + Sync, G: Gate + Sync, S: Steps>(
     crew: &Crew<'_, R, G>,
     machine: &mut Machine,
     program: &DistributedProgram<'_>,
     room: &mut RunRoom,
     steps: &mut S,
     before: Step,
-) -> Result<(), OutOfMemory>
+) -> Result<u32, OutOfMemory>
     requires sound { Sound program.now }
     requires keeps { (k : ℕ) → KeepsIn program.now k }
     requires space { HasRunRoomOf program.now room.old }
@@ -91,14 +93,17 @@ pub fn run_behind<R: Threads + Sync, G: Gate, S: Steps>(
 {
     let rounds = rounds_may_come(machine, program, room, before, crew.workers);
     let closed = rounds || groups_run_in_place(program, before, crew.workers);
+    let mut item = item_of(before);
     let mut next = next_told(steps, &mut room.places, closed);
     while let Some(of) = next {
+        go_on(crew.gate, program.bound, Some(item), of.item);
+        item = of.item;
         if comes_in_round(program, room, rounds, of, crew.workers) {
             next = run_round(crew, machine, program, room, steps, of)?;
         } else {
-            run_told(machine, program, &mut room.step, of, &room.places);
+            run_told(crew, machine, program, &mut room.step, of, &room.places);
             next = next_told(steps, &mut room.places, closed);
         }
     }
-    Ok(())
+    Ok(item)
 }

@@ -23,6 +23,7 @@ use crate::group::run_begins;
 use crate::joins::join;
 use crate::run_room::RunRoom;
 use crate::stream::{Steps, next_of};
+use crate::under_way::{end, go_on, item_of};
 use kernel_model::types::KernelFault;
 use op_num::OutOfMemory;
 use par_exec::{Crew, Gate};
@@ -31,13 +32,12 @@ use rank_machine::{messages, steps};
 use rank_program::{DistributedProgram, Room};
 use rank_state::rank_memory::stop::Stop;
 use schedule_steps::Step;
-use std::alloc::Global;
 use std::marker::Sync;
 use std::thread::Threads;
 
-// One step.
-fn take(
-    alloc: Global,
+// One step, of which the gate is told.
+fn take<R: Threads + Sync, G: Gate + Sync>(
+    crew: &Crew<'_, R, G>,
     machine: &mut Machine,
     program: &DistributedProgram<'_>,
     room: &mut Room,
@@ -58,22 +58,29 @@ fn take(
 {
     match step {
         Step::Send { item, from, to } => {
+            crew.gate.send(item, from, to);
             messages::send(machine, program, room, item, from, to);
             Ok(None)
         }
         Step::Recv { item, rank, from } => {
+            crew.gate.recv(item, rank, from);
             messages::recv(machine, program, room, item, rank, from);
             Ok(None)
         }
         Step::Begin { item, rank, place } => {
+            crew.gate.begin(item, rank, &[place]);
             steps::begin(machine, program, room, item, rank, place);
             Ok(None)
         }
         Step::End { item, rank, place } => {
             steps::end(machine, program, room, item, rank, place);
+            crew.gate.end(item, rank, &[place]);
             Ok(None)
         }
-        Step::Join { item } => join(alloc, machine, program, room, item),
+        Step::Join { item } => {
+            crew.gate.join(item);
+            join(crew.alloc, machine, program, room, item)
+        }
     }
 }
 
@@ -91,7 +98,7 @@ fn take(
 ///
 /// # Errors
 /// Want of memory alone.
-pub fn drive<R: Threads + Sync, G: Gate, S: Steps>(
+pub fn drive<R: Threads + Sync, G: Gate + Sync, S: Steps>(
     crew: &Crew<'_, R, G>,
     machine: &mut Machine,
     program: &DistributedProgram<'_>,
@@ -119,24 +126,29 @@ pub fn drive<R: Threads + Sync, G: Gate, S: Steps>(
     schedule_steps::peak_is_room();
     rank_state::steps_are_ready::<KernelFault>();
     crate::closed_groups::closed_groups_are_alone::<KernelFault>();
+    let mut under_way = None;
     let mut next = next_of(steps);
     while let Some(step) = next {
+        go_on(crew.gate, program.bound, under_way, item_of(step));
+        under_way = Some(item_of(step));
         if let Step::Begin { item, rank, place } = step {
             let begin = BeginAt { item, rank, place };
             match run_begins(crew, machine, program, room, steps, begin) {
                 Begun::InPlace => {
-                    run_behind(crew, machine, program, room, steps, step)?;
+                    under_way = Some(run_behind(crew, machine, program, room, steps, step)?);
                     next = next_of(steps);
                 }
                 Begun::Group(behind) => next = behind,
             }
         } else {
-            if let Some(stop) = take(crew.alloc, machine, program, &mut room.step, step)? {
+            if let Some(stop) = take(crew, machine, program, &mut room.step, step)? {
+                end(crew.gate, under_way);
                 return Ok(Some(stop));
             }
-            run_behind(crew, machine, program, room, steps, step)?;
+            under_way = Some(run_behind(crew, machine, program, room, steps, step)?);
             next = next_of(steps);
         }
     }
+    end(crew.gate, under_way);
     Ok(None)
 }

@@ -24,7 +24,7 @@ use crate::sharing::workers_for;
 use crate::stream::{Steps, Told, next_of};
 use crate::told::run_told;
 use kernel_model::types::KernelFault;
-use par_exec::{Crew, Gate};
+use par_exec::{Crew, Gate, ItemGate};
 use rank_machine::machine::Machine;
 use rank_machine::steps::read_constants;
 use rank_program::{DistributedProgram, KernelJob, job, put_targets, run_tasks};
@@ -33,8 +33,9 @@ use std::marker::Sync;
 use std::thread::Threads;
 
 // Runs a job's kernel once for each of its tasks, on the windows at the front of the staging buffer.
-fn run_in_front<R: Threads + Sync, G: Gate>(
+fn run_in_front<R: Threads + Sync, G: Gate + Sync>(
     crew: &Crew<'_, R, G>,
+    told: &ItemGate<'_, G>,
     job: &KernelJob<'_>,
     staging: &mut [i32],
     window: usize,
@@ -46,12 +47,13 @@ fn run_in_front<R: Threads + Sync, G: Gate>(
         → RanIn (job_core job.now i (take (task_at job.now.tasks.now i).cells (part window i staging.old)))
         (task_at job.now.tasks.now i).cells (part window i staging.new) }
 {
-    run_tasks(crew, job, &mut staging[..job.tasks.len() * window], window);
+    let windows = &mut staging[..job.tasks.len() * window];
+    run_tasks(crew, told, job, windows, window);
 }
 
 // Runs the kernel of the loop that is the group's item once for each task, on the first cells of the task's window.
 // Behind them stands a 0 then, or a 1 where the run had a fault.
-fn run_all<R: Threads + Sync, G: Gate>(
+fn run_all<R: Threads + Sync, G: Gate + Sync>(
     crew: &Crew<'_, R, G>,
     program: &DistributedProgram<'_>,
     group: &Begins<'_>,
@@ -83,7 +85,14 @@ fn run_all<R: Threads + Sync, G: Gate>(
         constants,
     );
     let crew = crew.with_workers(workers_for(&job, group.places[0], crew.workers));
-    run_in_front(&crew, &job, &mut buffers.staging, buffers.window);
+    let told = ItemGate {
+        gate: crew.gate,
+        item: group.item,
+        rank: group.rank,
+    };
+    crew.gate.group_begins(group.item, group.rank, group.places);
+    run_in_front(&crew, &told, &job, &mut buffers.staging, buffers.window);
+    crew.gate.group_ends(group.item, group.rank, group.places);
 }
 
 // The place, where the step is a begin of the item and rank.
@@ -152,7 +161,7 @@ fn is_end(step: Option<Step>, item: u32, rank: u32, place: u32) -> bool
 ///
 /// A group's kernels run first, by the workers of `crew`, and its gate is told of each run just before, by the begin's
 /// number in the group, from 0 on.
-pub fn run_begins<R: Threads + Sync, G: Gate, S: Steps>(
+pub fn run_begins<R: Threads + Sync, G: Gate + Sync, S: Steps>(
     crew: &Crew<'_, R, G>,
     machine: &mut Machine,
     program: &DistributedProgram<'_>,
@@ -185,7 +194,7 @@ pub fn run_begins<R: Threads + Sync, G: Gate, S: Steps>(
             rank,
             alone: true,
         };
-        run_told(machine, program, &mut room.step, of, &room.places);
+        run_told(crew, machine, program, &mut room.step, of, &room.places);
         return Begun::InPlace;
     }
     let group = Begins {

@@ -50,7 +50,11 @@ fn load_one(
         &mut room.spans,
     );
     let cells = machine.load(begin.rank, &room.spans, scalars, window);
-    Task { element, cells }
+    Task {
+        element,
+        place: begin.place,
+        cells,
+    }
 }
 
 // Adds the task of a begin to those of its group, with its element's windows in the next window of the buffer.

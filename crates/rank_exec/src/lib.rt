@@ -23,8 +23,9 @@ mod sharing;
 mod standing;
 pub mod stream;
 mod told;
+mod under_way;
 
 pub use rank_machine::machine::Machine;
 pub use rank_state::rank_memory::stop::Stop;
 pub use running::{Outcome, run_planned};
-pub use sharing::{come_in_rounds, needs_groups};
+pub use sharing::come_in_rounds;

@@ -3,10 +3,8 @@ mod orders;
 mod peaks;
 mod rooms;
 mod running;
-mod turns;
 
 pub use crate::Outcome;
 pub use orders::{Order, judge_list, steps_of};
 pub use peaks::{peaks_are_room, standard_has_room};
 pub use running::run_on_ranks;
-pub use turns::runs_well_in_turn;

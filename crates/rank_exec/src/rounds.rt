@@ -53,7 +53,7 @@ fn read_all(machine: &Machine, program: &DistributedProgram<'_>, parts: &mut [Ra
 ///
 /// # Errors
 /// Want of memory alone.
-pub fn run_round<R: Threads + Sync, G: Gate, S: Steps>(
+pub fn run_round<R: Threads + Sync, G: Gate + Sync, S: Steps>(
     crew: &Crew<'_, R, G>,
     machine: &mut Machine,
     program: &DistributedProgram<'_>,

@@ -63,7 +63,7 @@ fn outcome_of(
 ///
 /// # Errors
 /// Want of memory alone.
-pub fn run_planned<R: Threads + Sync, G: Gate, S: Steps>(
+pub fn run_planned<R: Threads + Sync, G: Gate + Sync, S: Steps>(
     crew: &Crew<'_, R, G>,
     program: &DistributedProgram<'_>,
     peak: Peak,

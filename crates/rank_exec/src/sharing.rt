@@ -2,9 +2,10 @@
 
 ghost use Rattle.std.specs.Prelude.{◌<◌};
 
+use crate::under_way::item_of;
 use bound_program::Item;
-use kernel_code::{Code, Part};
-use rank_program::{DistributedProgram, KernelJob, comes_in_batches, runs_in_batches};
+use kernel_code::Part;
+use rank_program::{DistributedProgram, KernelJob, comes_in_batches};
 use schedule_steps::Step;
 
 // As many operations as threads are worth: starting them takes as long as some thousands.
@@ -62,41 +63,23 @@ fn operations_in(program: &DistributedProgram<'_>, item: u32) -> usize {
     operations(&code.part)
 }
 
-/// Whether elements with a kernel that obeys its modes are better begun in groups by so many `workers` on so many
-/// `ranks`: it isn't short, doesn't run in batches, and there are more workers than ranks.
-pub fn needs_groups(code: &Code<'_>, ranks: u32, workers: u32) -> bool {
-    workers > ranks
-        && operations(&code.part).saturating_mul(FULL_GROUP) >= WORTH_THREADS
-        && !runs_in_batches(code)
-}
-
 // Whether the kernel of a Free item is so short that not even a full group of its elements is worth threads.
 fn is_short(program: &DistributedProgram<'_>, item: u32) -> bool {
     operations_in(program, item).saturating_mul(FULL_GROUP) < WORTH_THREADS
 }
 
 /// Whether the elements of a Free item come in rounds, where each rank's run in place: there are as many ranks as
-/// `workers` at least, or their kernel is short and there are several ranks, or it isn't and they run in batches, which
-/// several workers share out on a rank.
+/// `workers` at least, or their kernel is short, or it isn't and they run in batches, which several workers share out on
+/// a rank.
 pub fn come_in_rounds(program: &DistributedProgram<'_>, item: u32, workers: u32) -> bool {
-    let ranks = program.owners.ranks;
-    if workers <= ranks {
-        return true;
-    }
-    if is_short(program, item) {
-        return ranks > 1;
-    }
-    comes_in_batches(program, item)
+    workers <= program.owners.ranks || is_short(program, item) || comes_in_batches(program, item)
 }
 
 /// Whether elements that come behind this step may come in rounds: those of the same item would.
 pub fn may_come_in_rounds(program: &DistributedProgram<'_>, before: Step, workers: u32) -> bool {
     match before {
-        Step::Send { item, .. }
-        | Step::Recv { item, .. }
-        | Step::Begin { item, .. }
-        | Step::End { item, .. } => come_in_rounds(program, item, workers),
         Step::Join { .. } => true,
+        _ => come_in_rounds(program, item_of(before), workers),
     }
 }
 
@@ -109,8 +92,8 @@ pub fn groups_run_in_place(program: &DistributedProgram<'_>, before: Step, worke
     }
 }
 
-/// How many of the `workers` run a round with these places by rank: all of them where its kernels have many operations
-/// together, else one.
+/// How many of the `workers` run a round with these places by rank: where its kernels have many operations together, all
+/// of them, but no more than there are ranks where the kernel is short; else one.
 pub fn workers_for_round(
     program: &DistributedProgram<'_>,
     item: u32,
@@ -124,8 +107,11 @@ pub fn workers_for_round(
     for list in lists {
         count = count.saturating_add(list.len());
     }
-    if operations_in(program, item).saturating_mul(count) >= WORTH_THREADS {
-        return workers;
+    if operations_in(program, item).saturating_mul(count) < WORTH_THREADS {
+        return 1;
     }
-    1
+    if is_short(program, item) {
+        return workers.min(program.owners.ranks).max(1);
+    }
+    workers
 }

@@ -13,13 +13,31 @@ ghost use Rattle.rank_program.specs.Keeping.{KeepsIn};
 
 use crate::stream::Told;
 use kernel_model::types::KernelFault;
+use par_exec::{Crew, Gate, ItemGate};
 use rank_machine::machine::Machine;
 use rank_machine::steps::read_constants;
 use rank_program::{DistributedProgram, Room};
+use std::marker::Sync;
+use std::thread::Threads;
 
-/// Elements that were told, one after another, each begun and ended in place. The constants are read once: no element
-/// changes a variable.
-pub fn run_told(
+// Tells that a closed group begins, where elements are one.
+fn tell_begin<G: Gate>(gate: &G, of: Told, places: &[u32]) {
+    if !of.alone {
+        gate.group_begins(of.item, of.rank, places);
+    }
+}
+
+// Tells that it has ended.
+fn tell_end<G: Gate>(gate: &G, of: Told, places: &[u32]) {
+    if !of.alone {
+        gate.group_ends(of.item, of.rank, places);
+    }
+}
+
+/// Elements that were told, one after another, each begun and ended in place. The gate is told of them, and of a closed
+/// group that they are. The constants are read once: no element changes a variable.
+pub fn run_told<R: Threads + Sync, G: Gate + Sync>(
+    crew: &Crew<'_, R, G>,
     machine: &mut Machine,
     program: &DistributedProgram<'_>,
     room: &mut Room,
@@ -41,5 +59,12 @@ pub fn run_told(
     crate::closed_groups::places_stay_shut::<KernelFault>();
     rank_state::in_place_shows::<KernelFault>();
     read_constants(machine, program, &mut room.constants);
-    machine.in_place(program, of.item, of.rank, places, room);
+    let told = ItemGate {
+        gate: crew.gate,
+        item: of.item,
+        rank: of.rank,
+    };
+    tell_begin(crew.gate, of, places);
+    machine.in_place(crew.threads, program, &told, places, room);
+    tell_end(crew.gate, of, places);
 }

@@ -1,6 +1,6 @@
 -- What several threads read of a distributed program may be shared.
 use denote.Enum.Declared as enums
-use denote.Param.Send.{IsSync, struct_sync, enum_sync, sendable}
+use denote.Param.Send.{IsSync, IsSend, struct_sync, enum_sync, sendable}
 use denote.Param.SendFields.{as_row_sync}
 use denote.Ref.{NamedLft}
 use denote.Struct.Declared as structs
@@ -25,6 +25,14 @@ use Rattle.kernel_code.specs.contracts.op.Element as Element
 use Rattle.kernel_code.specs.contracts.op.Op as Op
 use Rattle.kernel_code.specs.contracts.part.Part as Part
 use Rattle.rank_program.specs.contracts.program.DistributedProgram as Program
+use Rattle.kernel_runs.specs.contracts.row_batches.rows.RowRoom as RowRoom
+use Rattle.kernel_runs.specs.contracts.worker_batches.room.BatchPart as BatchPart
+use Rattle.kernel_runs.specs.contracts.worker_batches.room.BatchesRoom as BatchesRoom
+use Rattle.rank_program.specs.contracts.room.KernelRoom as KernelRoom
+use Rattle.rank_program.specs.contracts.room.Room as Room
+use Rattle.rank_state.specs.contracts.rank_memory.stop.Stop as Stop
+use Rattle.rank_machine.specs.contracts.ranks.RankPart as RankPart
+use Rattle.rank_machine.specs.contracts.ranks.Round as Round
 use Rattle.kernel_code.proofs.part.Part.TheLaws.TheKnot as parts
 use Rattle.kernel_model.proofs.types.expressions.RExpr.TheLaws.TheKnot as expressions
 use Rattle.kernel_model.proofs.types.statements.RStmt.TheLaws.TheKnot as statements
@@ -193,3 +201,27 @@ code_sync a = search (kernel_sync, part_sync, crosses, sendable) depth 40
 
 pub program_sync : (a : NamedLft) → IsSync (Program.the_row a)
 program_sync a = search (owners_sync, rank_mesh_sync, lists_sync, plan_sync, bound_sync, code_sync, crosses, sendable) depth 60 fits 20000
+
+pub round_sync : (a b : NamedLft) → IsSync (Round.the_row a b)
+round_sync a b = search (program_sync, crosses, sendable) depth 40
+
+row_room_send : IsSend RowRoom.the_row
+row_room_send = search (crosses, sendable) depth 60 fits 20000
+
+batch_part_send : IsSend BatchPart.the_row
+batch_part_send = search (row_room_send, crosses, sendable) depth 60 fits 20000
+
+batches_send : IsSend BatchesRoom.the_row
+batches_send = search (batch_part_send, crosses, sendable) depth 60 fits 20000
+
+kernel_room_send : IsSend KernelRoom.the_row
+kernel_room_send = search (row_room_send, batches_send, crosses, sendable) depth 60 fits 20000
+
+room_send : IsSend Room.the_row
+room_send = search (kernel_room_send, crosses, sendable) depth 60 fits 20000
+
+stop_send : IsSend Stop.the_row
+stop_send = search (crosses, sendable) depth 60 fits 20000
+
+pub part_send : IsSend RankPart.the_row
+part_send = search (room_send, stop_send, crosses, sendable) depth 60 fits 20000

@@ -1,6 +1,7 @@
 // The elements of an item on all ranks at once.
 
-ghost use Rattle.std.specs.Prelude.{◌≡◌, ◌<◌, ◌||◌, map, length};
+ghost use Rattle.std.specs.Prelude.{◌≡◌, ◌+◌, ◌<◌, ◌^◌, ◌||◌, map, length};
+ghost use denote.Param.Send.{IsSync};
 ghost use Rattle.schedule_model.specs.Machine.{is_less, is_less_element};
 ghost use Rattle.par_exec.specs.Parts.{TakesEach, MadeEach};
 ghost use Rattle.rank_state.specs.Stops.{stop_of, stop_in};
@@ -8,12 +9,12 @@ ghost use Rattle.rank_program.specs.FromNone.{kept_both};
 ghost use Rattle.rank_machine.specs.OnRanks.{CanRunOn, RanOn, share_in, lent, kept_of_all, RanLent};
 
 use kernel_runs::worker_batches::Workers;
-use par_exec::{Crew, Gate, PartJob, run_parts};
+use par_exec::{Crew, Gate, ItemGate};
 use rank_program::{DistributedProgram, RankElements, Room, run_places};
 use rank_state::rank_memory::stop::Stop;
 use std::marker::Sync;
 use std::mem::swap;
-use std::thread::Threads;
+use std::thread::{Threads, join_mut};
 
 /// What elements are lent of their rank: its cells and partials, where they note their fault, and room for a step with
 /// the values of all constants.
@@ -34,39 +35,105 @@ pub struct Round<'a, 'b> {
     pub variables: &'a [i32],
 }
 
-impl<'a, 'b> PartJob<RankPart> for Round<'a, 'b> {
-    ghost use Rattle.rank_machine.specs.OnRanks.{CanRunOn, RanOn};
-
-    ghost takes = { λ s r x. CanRunOn s.program.now s.item s.variables.now s.lists.now r x };
-
-    ghost makes = { λ s r x y. RanOn s.program.now s.item s.variables.now s.lists.now r x y };
-
-    fn run<R: Threads + Sync>(&self, threads: &R, workers: u32, index: usize, part: &mut RankPart) {
-        let places = self.lists[index].as_slice();
-        if places.is_empty() {
-            part.fault = None;
-            return;
-        }
-        let how = Workers {
-            threads,
-            count: workers,
-        };
-        let elements = RankElements {
-            program: self.program,
-            item: self.item,
-            rank: index as u32,
-            places,
-            variables: self.variables,
-        };
-        part.fault = run_places(
-            &how,
-            &elements,
-            &mut part.memory,
-            &mut part.partials,
-            None,
-            &mut part.room,
-        );
+// Runs the kernel of a round's item for the elements at a rank's places, in place on what they are lent, by so many
+// workers that the rank has to itself. The gate is told of the rank before.
+fn run_rank<R: Threads + Sync, G: Gate + Sync>(
+    threads: &R,
+    workers: u32,
+    gate: &G,
+    round: &Round<'_, '_>,
+    rank: usize,
+    part: &mut RankPart,
+)
+    requires can { CanRunOn round.now.program.now round.now.item round.now.variables.now round.now.lists.now rank part.old }
+    ensures { RanOn round.now.program.now round.now.item round.now.variables.now round.now.lists.now rank part.old part.new }
+{
+    gate.enter(rank);
+    let places = round.lists[rank].as_slice();
+    if places.is_empty() {
+        part.fault = None;
+        return;
     }
+    let told = ItemGate {
+        gate,
+        item: round.item,
+        rank: rank as u32,
+    };
+    let workers = Workers {
+        threads,
+        count: workers,
+        told: &told,
+    };
+    let elements = RankElements {
+        program: round.program,
+        item: round.item,
+        rank: rank as u32,
+        places,
+        variables: round.variables,
+    };
+    part.fault = run_places(
+        &workers,
+        &elements,
+        &mut part.memory,
+        &mut part.partials,
+        None,
+        &mut part.room,
+    );
+}
+
+// Runs the round on the ranks from `first` on, which have these parts: with more than one worker and more than one
+// rank, on halves of them by fork and join, the workers shared out between these.
+#[cycle(ranks)]
+fn run_from<R: Threads + Sync, G: Gate + Sync>(
+    threads: &R,
+    workers: u32,
+    gate: &G,
+    round: &Round<'_, '_>,
+    first: usize,
+    parts: &mut [RankPart],
+)
+    requires workers { 0 < workers }
+    requires room { first + length parts.old < 2 ^ 64 }
+    requires can { TakesEach (CanRunOn round.now.program.now round.now.item round.now.variables.now round.now.lists.now)
+        first parts.old }
+    ensures { MadeEach (RanOn round.now.program.now round.now.item round.now.variables.now round.now.lists.now)
+        first parts.old parts.new }
+{
+    let count = parts.len();
+    if count == 0 {
+        return;
+    }
+    if count == 1 {
+        run_rank(threads, workers, gate, round, first, &mut parts[0]);
+        return;
+    }
+    let low = count / 2;
+    let next = first + low;
+    let (front, back) = parts.split_at_mut(low);
+    if workers == 1 {
+        run_from(threads, 1, gate, round, first, front);
+        run_from(threads, 1, gate, round, next, back);
+        return;
+    }
+    let theirs = workers / 2;
+    let ours = workers - theirs;
+    join_mut(
+        threads,
+        &mut ||
+            requires { IsSync R.row × IsSync G.row × (0 < theirs) × (first + length front.now < 2 ^ 64)
+                × TakesEach (CanRunOn round.now.program.now round.now.item round.now.variables.now round.now.lists.now)
+                first front.now }
+            ensures { MadeEach (RanOn round.entry.now.program.now round.entry.now.item round.entry.now.variables.now
+                round.entry.now.lists.now) first front.entry.now front.exit.now }
+        { run_from(threads, theirs, gate, round, first, front) },
+        &mut ||
+            requires { IsSync R.row × IsSync G.row × (0 < ours) × (next + length back.now < 2 ^ 64)
+                × TakesEach (CanRunOn round.now.program.now round.now.item round.now.variables.now round.now.lists.now)
+                next back.now }
+            ensures { MadeEach (RanOn round.entry.now.program.now round.entry.now.item round.entry.now.variables.now
+                round.entry.now.lists.now) next back.entry.now back.exit.now }
+        { run_from(threads, ours, gate, round, next, back) },
+    );
 }
 
 // Gives each part the memory and the partials of its rank, and the rank what the part had.
@@ -130,7 +197,7 @@ fn kept_of_parts(fault: Option<Stop>, parts: &[RankPart]) -> Option<Stop>
 /// memory and partials, from no fault on; answers the fault to keep of `fault` and of theirs, put together by
 /// increasing rank. The ranks are shared out among the workers of `crew`, and its gate is told of each rank just
 /// before. What is said of each rank holds for every crew. There is a part for each rank. Takes no memory.
-pub fn run_lent<R: Threads + Sync, G: Gate>(
+pub fn run_lent<R: Threads + Sync, G: Gate + Sync>(
     crew: &Crew<'_, R, G>,
     round: &Round<'_, '_>,
     memories: &mut [Vec<i32>],
@@ -147,7 +214,7 @@ pub fn run_lent<R: Threads + Sync, G: Gate>(
         memories.new partials.new parts.new (stop_in result) }
 {
     swap_all(memories, partials, parts);
-    run_parts(crew.threads, crew.workers, crew.gate, round, parts);
+    run_from(crew.threads, crew.workers, crew.gate, round, 0, parts);
     let kept = kept_of_parts(fault, parts);
     swap_all(memories, partials, parts);
     kept

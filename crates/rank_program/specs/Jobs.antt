@@ -17,7 +17,7 @@ use Rattle.rank_program.specs.declared.kernel_job.KernelJob.{KernelJob}
 
 -- the task that stands for one that is not there
 abbrev pub no_task : Task
-no_task = record { element = 0; cells = 0 }
+no_task = record { element = 0; place = 0; cells = 0 }
 
 -- the task at a place of a list
 abbrev pub task_at : List Task → ℕ → Task

@@ -12,9 +12,12 @@ use crate::here::run_here;
 use crate::local_loops::local_loop;
 use crate::rank_elements::RankElements;
 use crate::room::Room;
-use kernel_runs::worker_batches::AtOnce;
+use kernel_runs::worker_batches::Workers;
+use par_exec::Gate;
 use rank_layout::MAX_ARGS;
 use rank_state::rank_memory::stop::Stop;
+use std::marker::Sync;
+use std::thread::Threads;
 
 // Puts so many cells behind those of a buffer, which has the capacity.
 fn lengthen(memory: &mut Vec<i32>, count: usize)
@@ -29,18 +32,17 @@ fn lengthen(memory: &mut Vec<i32>, count: usize)
 }
 
 /// Runs the kernel of an item's loop for elements on a rank, as one after another, on the cells of the rank's buffer
-/// `memory`, by as many workers as `how` says. While they run, the cells of the loop's scalars stand behind these, for
+/// `memory`, by these workers. While they run, the cells of the loop's scalars stand behind these, for
 /// which the buffer has capacity. Answers the fault to keep of `fault` and of theirs; an element that faults leaves the
 /// buffer and the partials as they were. Takes no memory.
-pub fn run_places<H: AtOnce>(
-    how: &H,
+pub fn run_places<R: Threads + Sync, G: Gate + Sync>(
+    workers: &Workers<'_, R, G>,
     elements: &RankElements<'_>,
     memory: &mut Vec<i32>,
     partials: &mut [i32],
     fault: Option<Stop>,
     room: &mut Room,
 ) -> Option<Stop>
-    requires ready { H.ready how.now }
     requires sound { Sound elements.now.program.now }
     requires keeps { KeepsIn elements.now.program.now elements.now.item }
     requires some { 0 < length elements.now.places.now }
@@ -62,7 +64,7 @@ pub fn run_places<H: AtOnce>(
     let local = local_loop(elements, &room.constants, &mut args);
     let width = memory.len();
     lengthen(memory, local.scalars.len());
-    let kept = run_here(how, &local, memory, partials, fault, &mut room.kernels);
+    let kept = run_here(workers, &local, memory, partials, fault, &mut room.kernels);
     memory.truncate(width);
     kept
 }

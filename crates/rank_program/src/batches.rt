@@ -16,12 +16,16 @@ use crate::share::RankShare;
 use kernel_columns::ROWS;
 use kernel_model::types::views::Place;
 use kernel_runs::row_batches::{FEWEST, RowRoom, batch_at, run_batch};
-use kernel_runs::worker_batches::AtOnce;
+use kernel_runs::worker_batches::Workers;
+use par_exec::{Gate, ItemGate};
 use rank_layout::{MAX_ARGS, element_windows_stand, steps_stand, windows_stand};
+use std::marker::Sync;
+use std::thread::Threads;
 
 // Runs the kernel of a loop for elements at its places from `at` on at once: for as many of so many, at most 64, as run
 // in rows. Answers how many ran, from the first on. None of them has a fault.
-fn run_rows(
+fn run_rows<G: Gate>(
+    told: &ItemGate<'_, G>,
     run: &LoopInRows<'_>,
     at: usize,
     count: usize,
@@ -51,27 +55,29 @@ fn run_rows(
     }
     let batch = batch_at(run.local.places, at, count);
     let width = run.local.part.cells;
-    run_batch(
+    told.begin(&run.local.places[at..at + count]);
+    let ran = run_batch(
         &run.rows,
         &batch,
         count,
         &mut share.memory[..width],
         share.partials,
         room,
-    )
+    );
+    told.end(&run.local.places[at..at + ran]);
+    ran
 }
 
 // Runs the kernel of a loop whose elements run in rows for them, by batches of up to 64, or several of these at once.
 // Behind a batch of which some ran in rows, one element runs alone, which does not run with them. Where none of a batch
 // runs in rows, its first 8 elements run one after another, and twice as many each time that the next batch fails too.
 // Answers how many elements ran; fewer than make a batch are left.
-fn run_all<H: AtOnce>(
-    how: &H,
+fn run_all<R: Threads + Sync, G: Gate + Sync>(
+    workers: &Workers<'_, R, G>,
     run: &LoopInRows<'_>,
     share: &mut RankShare<'_>,
     room: &mut KernelRoom,
 ) -> usize
-    requires ready { H.ready how.now }
     requires can { CanRunInRows run.now }
     requires lent { IsLent run.now.local.now share.old }
     requires room { HasLoopRoom run.now.local.now room.old }
@@ -84,13 +90,13 @@ fn run_all<H: AtOnce>(
     let mut at = 0;
     let mut pause = FEWEST;
     while end - at >= FEWEST {
-        let many = run_many(how, run, at, share, &mut room.batches);
+        let many = run_many(workers, run, at, share, &mut room.batches);
         if many > 0 {
             at += many;
             continue;
         }
         let count = ROWS.min(end - at);
-        let ran = run_rows(run, at, count, share, &mut room.rows);
+        let ran = run_rows(workers.told, run, at, count, share, &mut room.rows);
         let upto = if ran > 0 {
             pause = FEWEST;
             count.min(ran + 1)
@@ -99,7 +105,7 @@ fn run_all<H: AtOnce>(
             pause = pause.saturating_mul(2);
             alone
         };
-        run_alone(run.local, at + ran, at + upto, share, room);
+        run_alone(workers.told, run.local, at + ran, at + upto, share, room);
         at += upto;
     }
     at
@@ -108,13 +114,12 @@ fn run_all<H: AtOnce>(
 /// Runs the kernel of a loop on a rank for its elements by batches of up to 64, where they run in rows. Answers how
 /// many elements ran, from the first on. The room has places of the arguments, as `put_behind` left them. The tables of
 /// rows are locals here and not of what calls it, which would clear them for a single element too.
-pub fn run_batches<H: AtOnce>(
-    how: &H,
+pub fn run_batches<R: Threads + Sync, G: Gate + Sync>(
+    workers: &Workers<'_, R, G>,
     local: &LocalLoop<'_>,
     share: &mut RankShare<'_>,
     room: &mut KernelRoom,
 ) -> usize
-    requires ready { H.ready how.now }
     requires can { CanRunHere local.now }
     requires steps { AllBeginHere local.now }
     requires lent { IsLent local.now share.old }
@@ -140,6 +145,6 @@ pub fn run_batches<H: AtOnce>(
         &mut pairs,
     ) {
         None => 0,
-        Some(rows) => run_all(how, &LoopInRows { local, rows }, share, room),
+        Some(rows) => run_all(workers, &LoopInRows { local, rows }, share, room),
     }
 }

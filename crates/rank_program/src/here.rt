@@ -25,10 +25,13 @@ use crate::share::RankShare;
 use kernel_model::types::KernelFault;
 use kernel_model::types::views::Place;
 use kernel_runs::in_place::KernelInPlace;
-use kernel_runs::worker_batches::AtOnce;
+use kernel_runs::worker_batches::Workers;
+use par_exec::{Gate, ItemGate};
 use rank_layout::{MAX_ARGS, element_windows_stand, put_windows, steps_stand, windows_stand};
 use rank_state::rank_memory::scalars::{fill, merge_amounts};
 use rank_state::rank_memory::stop::{Stop, least};
+use std::marker::Sync;
+use std::thread::Threads;
 
 // Puts down where windows stand behind so many cells, which stood behind so many others.
 fn move_behind(width: usize, others: usize, windows: &[Place], places: &mut Vec<Place>)
@@ -162,9 +165,10 @@ fn run_element(
 }
 
 /// Runs the kernel of a loop on a rank for its elements at the places from one on and before another, one after
-/// another, on the rank's own cells. The room has places of the arguments, as `put_behind` or an earlier element left
+/// another, on the rank's own cells, and tells of each. The room has places of the arguments, as `put_behind` or an earlier element left
 /// them. An element that faults leaves the buffer and the partials as they were. Takes no memory.
-pub fn run_alone(
+pub fn run_alone<G: Gate>(
+    told: &ItemGate<'_, G>,
     local: &LocalLoop<'_>,
     from: usize,
     to: usize,
@@ -183,6 +187,7 @@ pub fn run_alone(
 {
     for i in from..to {
         let place = local.places[i];
+        told.begin(&local.places[i..i + 1]);
         run_element(
             local,
             place,
@@ -191,22 +196,22 @@ pub fn run_alone(
             &mut share.fault,
             room,
         );
+        told.end(&local.places[i..i + 1]);
     }
 }
 
 /// Runs the kernel of a loop on a rank for its elements, as one after another, on `memory`: the cells of the rank's
 /// buffer, and behind them one for each of the loop's scalars, whatever it holds. Where they run in rows, 64 of them
-/// run at once, and several batches of 64 by the workers that `how` says. Answers the fault to keep of `fault` and of
-/// theirs; an element that faults leaves the buffer and the partials as they were. Takes no memory.
-pub fn run_here<H: AtOnce>(
-    how: &H,
+/// run at once, and several batches of 64 by several workers; the gate is told of them. Answers the fault to keep of
+/// `fault` and of theirs; an element that faults leaves the buffer and the partials as they were. Takes no memory.
+pub fn run_here<R: Threads + Sync, G: Gate + Sync>(
+    workers: &Workers<'_, R, G>,
     local: &LocalLoop<'_>,
     memory: &mut [i32],
     partials: &mut [i32],
     fault: Option<Stop>,
     room: &mut KernelRoom,
 ) -> Option<Stop>
-    requires ready { H.ready how.now }
     requires can { CanRunHere local.now }
     requires some { 0 < length local.now.places.now }
     requires steps { AllBeginHere local.now }
@@ -226,7 +231,14 @@ pub fn run_here<H: AtOnce>(
         partials,
         fault,
     };
-    let done = run_batches(how, local, &mut share, room);
-    run_alone(local, done, local.places.len(), &mut share, room);
+    let done = run_batches(workers, local, &mut share, room);
+    run_alone(
+        workers.told,
+        local,
+        done,
+        local.places.len(),
+        &mut share,
+        room,
+    );
     share.fault
 }

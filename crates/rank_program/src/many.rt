@@ -7,8 +7,11 @@ ghost use Rattle.rank_program.specs.LocalRuns.{IsLent, StaysLent, share_in};
 use crate::counts::all_count;
 use crate::row_loops::LoopInRows;
 use crate::share::RankShare;
-use kernel_runs::worker_batches::{AtOnce, BatchesRoom};
+use kernel_runs::worker_batches::{BatchesRoom, Workers, most_at_once, run_at_once};
+use par_exec::Gate;
 use rank_layout::{element_windows_stand, steps_stand, windows_stand};
+use std::marker::Sync;
+use std::thread::Threads;
 
 // So many places of a list from one on.
 fn part_at(places: &[u32], at: usize, count: usize) -> &[u32]
@@ -20,14 +23,13 @@ fn part_at(places: &[u32], at: usize, count: usize) -> &[u32]
 
 /// Runs the kernel of a loop for elements at its places from `at` on, in batches at once, for as many as can run so.
 /// Answers how many ran, from the first on. None of them has a fault.
-pub fn run_many<H: AtOnce>(
-    how: &H,
+pub fn run_many<R: Threads + Sync, G: Gate + Sync>(
+    workers: &Workers<'_, R, G>,
     run: &LoopInRows<'_>,
     at: usize,
     share: &mut RankShare<'_>,
     room: &mut BatchesRoom,
 ) -> usize
-    requires ready { H.ready how.now }
     requires can { CanRunInRows run.now }
     requires fits { at ≤ length run.now.local.now.places.now }
     requires lent { IsLent run.now.local.now share.old }
@@ -42,7 +44,7 @@ pub fn run_many<H: AtOnce>(
     element_windows_stand();
     bound_plan::frames_are_reached();
     kernel_runs::in_place::finishes_here();
-    let count = how.most(room).min(run.local.places.len() - at);
+    let count = most_at_once(workers, room).min(run.local.places.len() - at);
     if count == 0 {
         return 0;
     }
@@ -51,7 +53,8 @@ pub fn run_many<H: AtOnce>(
     }
     let part = part_at(run.local.places, at, count);
     let width = run.local.part.cells;
-    how.run(
+    run_at_once(
+        workers,
         &run.rows,
         part,
         &mut share.memory[..width],

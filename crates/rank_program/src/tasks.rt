@@ -2,10 +2,11 @@
 
 use kernel_model::types::views::Place;
 
-/// A run: its element by its original number, and how many cells the element's windows have.
+/// A run: its element by its original number and by its place, and how many cells the element's windows have.
 #[derive(Clone, Copy)]
 pub struct Task {
     pub element: u32,
+    pub place: u32,
     pub cells: usize,
 }
 

@@ -27,6 +27,7 @@ use job_inputs::{bound_input, expect_blocks, expect_input, expect_parting};
 use loop_plan::planned_program::Planned;
 use op_num::OutOfMemory;
 use op_outside::Shelf;
+use par_exec::Open;
 use std::alloc::Global;
 use tool_words::PlanJob;
 
@@ -102,7 +103,7 @@ fn on_bound_plan<'a, F: Shelf>(
         (λ files. PlanJobAnswers (plan_job_of job.entry) (options_in options.now) files (bound_of bound.now))
         (Rose (F.faults shelf.old) (F.faults shelf.new)) result }
 {
-    let planned = planned_on(alloc, shelf, kept, options, bound, false)?;
+    let planned = planned_on(alloc, shelf, kept, options, bound, &Open)?;
     on_planned(alloc, shelf, kept, job, &planned)
 }
 
@@ -128,6 +129,12 @@ pub fn on_plan<'a, F: Shelf>(
 {
     some_files_are_as_seen();
     let mut kept = awaited(alloc, job, options, source, mesh)?;
-    let bound = bound_input(alloc, shelf, &mut kept, Input::InFiles { source, mesh })?;
+    let bound = bound_input(
+        alloc,
+        shelf,
+        &mut kept,
+        Input::InFiles { source, mesh },
+        &Open,
+    )?;
     on_bound_plan(alloc, shelf, &mut kept, job, options, &bound)
 }

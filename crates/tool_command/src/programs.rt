@@ -23,6 +23,7 @@ use job_inputs::bound_input;
 use job_inputs::kept_files::{Kept, some_files_are_as_seen};
 use op_num::OutOfMemory;
 use op_outside::Shelf;
+use par_exec::Open;
 use std::alloc::Global;
 use tool_words::ProgramJob;
 
@@ -92,6 +93,12 @@ pub fn on_program<'a, F: Shelf>(
 {
     some_files_are_as_seen();
     let mut kept = awaited(alloc, job, source, mesh)?;
-    let bound = bound_input(alloc, shelf, &mut kept, Input::InFiles { source, mesh })?;
+    let bound = bound_input(
+        alloc,
+        shelf,
+        &mut kept,
+        Input::InFiles { source, mesh },
+        &Open,
+    )?;
     on_bound(alloc, shelf, &mut kept, job, &bound)
 }

@@ -156,14 +156,13 @@ module _ (rest : Files → Planned → lines.Answer → Type 0) (o : Options) (b
       halts_weaker told rose old (λ files r. PlanningAnswers Unplanned o files b (refused r)) (λ files r. All files (refused r)) h
       (λ files r x. (fits, planning_never (rest files) o files b (refused r) x)) k
 
-  pub planning_answered : (mid : Readings) (p q : Planned) (r : Result Answer Halt)
-      → ((files : Files) (a : lines.Answer) → rest files p a → rest files q a)
-      → Finds told old mid (IsPlannedIn o b q)
+  pub planning_answered : (mid : Readings) (p : Planned) (r : Result Answer Halt)
+      → Finds told old mid (IsPlannedIn o b p)
       → AreNext (names_by o.parting ++ names_in_blocks o.blocks) old
       → HaveCome (names_by o.parting ++ names_in_blocks o.blocks) old mid
       → AnswersFrom told mid (λ files. rest files p) rose r
       → AnswersFrom told old All rose r
-  planning_answered mid p q r step found next come h =
-      answers_on told rose old mid (IsPlannedIn o b q) found (λ files. rest files p) All r
+  planning_answered mid p r found next come h =
+      answers_on told rose old mid (IsPlannedIn o b p) found (λ files. rest files p) All r
       (still_named (names_by o.parting ++ names_in_blocks o.blocks) old mid next come)
-      (λ files a k x. (fits, planning_reached (rest files) o b q files a k (step files a x))) h
+      (λ files a k x. (fits, planning_reached (rest files) o b p files a k x)) h

@@ -1,6 +1,6 @@
 // The plan of a bound program on its ranks, with the blocks and colours that are asked for.
 
-ghost use Rattle.std.specs.Prelude.{◌≡◌, ◌≤◌, ◌<◌, true, IfOk, IfErr, length};
+ghost use Rattle.std.specs.Prelude.{◌≡◌, ◌≤◌, ◌<◌, IfOk, IfErr, length};
 ghost use Rattle.bound_program.specs.Values.{bound_of};
 ghost use Rattle.bound_program.specs.Fits.{Fits};
 ghost use Rattle.loop_plan.specs.Values.{plan_of};
@@ -12,15 +12,14 @@ ghost use Rattle.command_words.specs.Values.{blocks_in};
 ghost use Rattle.answers.specs.Judgements.{Least, Told, IsPlanned, IsUnplanned};
 ghost use Rattle.command_words.specs.Halts.{StopsWhere};
 ghost use Rattle.job_inputs.specs.Inputs.{colouring_by};
-ghost use Rattle.job_inputs.specs.Plans.{SaysPlan, StandsFor};
+ghost use Rattle.job_inputs.specs.Plans.{SaysPlan};
 
 use bound_program::Bound;
 use command_words::Blocks;
 use command_words::answer_lines::{Failure, Halt, Limit, Refusal};
-use loop_plan::plan_exists::some_plan;
-use loop_plan::{Plan, PlanRefusal, plan, plan_in_turn};
+use loop_plan::{Plan, PlanRefusal, plan};
 use partition::distribute::Distribution;
-use plan_cert::{CertRefusal, certify, proper_plans_have_steps};
+use plan_cert::{CertRefusal, certify};
 use std::alloc::Global;
 
 // More steps than the limit.
@@ -47,28 +46,6 @@ fn least_plan<'a>(
     ensures err { IfErr result (StopsWhere (IsUnplanned (Least places) (bound_of bound.now) found.now.ranks.items)) }
 {
     match plan(alloc, bound, &found.ranks, &found.halos, places) {
-        Ok(plan) => Ok(plan),
-        Err(PlanRefusal::TooManySteps { steps }) => Err(beyond_steps(steps)),
-        Err(PlanRefusal::OutOfMemory) => Err(Halt::Failed(Failure::OutOfMemory)),
-    }
-}
-
-// A plan by which places go in their order, where one with least colours is asked for, in blocks of this many places.
-fn turn_plan<'a>(
-    alloc: Global,
-    bound: &Bound,
-    found: &Distribution,
-    places: u32,
-) -> Result<Plan, Halt<'a>>
-    requires fits { Fits (bound_of bound.now) }
-    requires ranks { Distributed (bound_of bound.now).mesh found.now.halos found.now.ranks.items }
-    requires some { 0 < places }
-    ensures ok { IfOk result (λ p. StandsFor true (Least places) (bound_of bound.now) found.now.ranks.items (plan_of p)) }
-    ensures err { IfErr result (StopsWhere (IsUnplanned (Least places) (bound_of bound.now) found.now.ranks.items)) }
-{
-    some_plan();
-    proper_plans_have_steps();
-    match plan_in_turn(alloc, bound, &found.ranks, &found.halos, places) {
         Ok(plan) => Ok(plan),
         Err(PlanRefusal::TooManySteps { steps }) => Err(beyond_steps(steps)),
         Err(PlanRefusal::OutOfMemory) => Err(Halt::Failed(Failure::OutOfMemory)),
@@ -113,8 +90,13 @@ fn told_plan<'a>(
     }
 }
 
-// The plan of a bound program on the ranks of a distribution, with the blocks and colours that are asked for.
-fn asked_plan<'a>(
+/// The plan of a bound program on the ranks of a distribution, with the blocks and colours that are asked for: least
+/// colours in blocks of one size, or those of a file. Where a file tells them, `text` is what it holds; else the text
+/// isn't looked at. It has at most `PLAN_BYTES` bytes.
+///
+/// Refused are a text that gives no plan of the program, at its first line that isn't as awaited, and a plan with more
+/// steps than the limit. Want of memory is the one failure.
+pub fn plan_by<'a>(
     alloc: Global,
     bound: &Bound,
     found: &Distribution,
@@ -134,36 +116,4 @@ fn asked_plan<'a>(
         Blocks::OfSize(places) => least_plan(alloc, bound, found, places),
         Blocks::AsPlanned(_) => told_plan(alloc, bound, found, text),
     }
-}
-
-/// A plan of a bound program on the ranks of a distribution that runs what the plan does whose blocks and colours are
-/// asked for, in as many steps: that plan, or one by which places go in their order (`in_turn`), which takes no
-/// colouring. Where a file tells blocks and colours, `text` is what it holds, and that plan is taken; else the text
-/// isn't looked at. It has at most `PLAN_BYTES` bytes.
-///
-/// Refused are a text that gives no plan of the program, at its first line that isn't as awaited, and a plan with more
-/// steps than the limit. Want of memory is the one failure.
-pub fn plan_by<'a>(
-    alloc: Global,
-    bound: &Bound,
-    found: &Distribution,
-    blocks: Blocks<'_>,
-    text: &[u8],
-    in_turn: bool,
-) -> Result<Plan, Halt<'a>>
-    requires fits { Fits (bound_of bound.now) }
-    requires ranks { Distributed (bound_of bound.now).mesh found.now.halos found.now.ranks.items }
-    requires places { HaveFewPlaces (blocks_in blocks) }
-    requires few { length text.now ≤ PLAN_BYTES }
-    ensures ok { IfOk result (λ p. StandsFor in_turn (colouring_by (blocks_in blocks.entry) text.now) (bound_of bound.now)
-        found.now.ranks.items (plan_of p)) }
-    ensures err { IfErr result (StopsWhere (IsUnplanned (colouring_by (blocks_in blocks.entry) text.now) (bound_of bound.now)
-        found.now.ranks.items)) }
-{
-    if in_turn {
-        if let Blocks::OfSize(places) = blocks {
-            return turn_plan(alloc, bound, found, places);
-        }
-    }
-    asked_plan(alloc, bound, found, blocks, text)
 }

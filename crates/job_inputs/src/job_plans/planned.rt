@@ -12,12 +12,11 @@ ghost use Rattle.command_words.specs.Halts.{StopsWhere};
 ghost use Rattle.command_words.specs.Words.{names_by, names_in_blocks};
 ghost use Rattle.command_words.specs.Laws.{AreWithin, HaveFewPlaces};
 ghost use Rattle.command_words.specs.Values.{options_in, blocks_in};
-ghost use Rattle.answers.specs.Judgements as judged;
 ghost use Rattle.answers.specs.Judgements.{PlanIs};
 ghost use Rattle.answers.specs.Answers.{PlanningAnswers};
 ghost use Rattle.job_inputs.specs.Inputs.{colouring_by};
 ghost use Rattle.job_inputs.specs.Chains.{HaltsOver};
-ghost use Rattle.job_inputs.specs.Plans.{planned_of, Unplanned, IsPlannedIn, AreAlike};
+ghost use Rattle.job_inputs.specs.Plans.{planned_of, Unplanned, IsPlannedIn};
 
 use crate::job_plans::colourings::plan_by;
 use crate::kept_files::Kept;
@@ -28,34 +27,41 @@ use command_words::{Blocks, Options};
 use loop_plan::planned_program::Planned;
 use mesh_decl::{Owners, Perms};
 use op_outside::Shelf;
+use par_exec::{Gate, Phase};
 use partition::distribute::distribute;
 use std::alloc::Global;
 
-// The mesh by these owners and new numbers, and a plan there that runs what the one does that is asked for. Where a
-// file tells blocks and colours, `text` is what it holds.
-fn plan_over<'a, 'b>(
+// The blocks and colours that are asked for. Where a file tells them, `text` is what it holds.
+#[derive(Drop)]
+struct Colouring<'p> {
+    blocks: Blocks<'p>,
+    text: &'p [u8],
+}
+
+// The mesh by these owners and new numbers, and the plan there that is asked for. The gate is told of both.
+fn plan_over<'a, 'b, G: Gate>(
     alloc: Global,
-    blocks: Blocks<'_>,
     bound: &'b Bound,
     owners: Owners,
     perms: Perms,
-    text: &[u8],
-    in_turn: bool,
+    asked: &Colouring<'_>,
+    gate: &G,
 ) -> Result<Planned<'b>, Halt<'a>>
     requires fits { Fits (bound_of bound.now) }
     requires owners { AreOwners (bound_of bound.now).mesh owners }
     requires perms { ArePerms (bound_of bound.now).mesh perms }
-    requires places { HaveFewPlaces (blocks_in blocks) }
-    requires few { length text.now ≤ PLAN_BYTES }
-    ensures ok { IfOk result (λ p. (q : judged.Planned)
-        × PlanIs (colouring_by (blocks_in blocks.entry) text.now) (bound_of bound.now) owners perms (Ok q)
-        × AreAlike in_turn (planned_of p) q) }
+    requires places { HaveFewPlaces (blocks_in asked.now.blocks) }
+    requires few { length asked.now.text.now ≤ PLAN_BYTES }
+    ensures ok { IfOk result (λ p.
+        PlanIs (colouring_by (blocks_in asked.now.blocks) asked.now.text.now) (bound_of bound.now) owners perms (Ok (planned_of p))) }
     ensures of { IfOk result (λ p. p.bound ≡ bound.now) }
-    ensures err { IfErr result (StopsWhere (λ r. PlanIs (colouring_by (blocks_in blocks.entry) text.now) (bound_of bound.now) owners perms
-        (Err r))) }
+    ensures err { IfErr result (StopsWhere (λ r. PlanIs (colouring_by (blocks_in asked.now.blocks) asked.now.text.now) (bound_of bound.now)
+        owners perms (Err r))) }
 {
     let distribution = distribute(alloc, &bound.mesh, owners, perms)?;
-    let plan = plan_by(alloc, bound, &distribution, blocks, text, in_turn)?;
+    gate.phase(Phase::Distributed);
+    let plan = plan_by(alloc, bound, &distribution, asked.blocks, asked.text)?;
+    gate.phase(Phase::Planned);
     Ok(Planned {
         bound,
         distribution,
@@ -63,20 +69,20 @@ fn plan_over<'a, 'b>(
     })
 }
 
-/// The mesh of a bound program on the ranks that the options ask for, and a plan there that runs what the one does that
-/// they ask for, in as many steps: that plan, or one by which places go in their order (`in_turn`), where no file tells
-/// it. The program fits, and the numbers of the options are in range. Where the options name the files of a partition
-/// and of a plan, these are the next in `kept`.
+/// The mesh of a bound program on the ranks that the options ask for, and the plan there that they ask for: least
+/// colours in blocks of their size, or those of a file. The program fits, and the numbers of the options are in range.
+/// Where the options name the files of a partition and of a plan, these are the next in `kept`.
 ///
 /// Judged are, up to the first refusal, new numbers, the partition's file, owners, the plan's file, and the plan. A
-/// file that could not be read is a failure, where the shelf's count of faults rose, and so is want of memory.
-pub fn planned_on<'a, 'b, F: Shelf>(
+/// file that could not be read is a failure, where the shelf's count of faults rose, and so is want of memory. The gate
+/// is told when the mesh has been distributed, and when the plan has been made.
+pub fn planned_on<'a, 'b, F: Shelf, G: Gate>(
     alloc: Global,
     shelf: &mut F,
     kept: &mut Kept<'a>,
     options: &Options<'a>,
     bound: &'b Bound,
-    in_turn: bool,
+    gate: &G,
 ) -> Result<Planned<'b>, Halt<'a>>
     requires parting { All (λ name. F.lends shelf.old name) (names_by (options_in options.now).parting) }
     requires blocks { All (λ name. F.lends shelf.old name) (names_in_blocks (options_in options.now).blocks) }
@@ -88,9 +94,8 @@ pub fn planned_on<'a, 'b, F: Shelf>(
     ensures calm { OnOk result (F.faults shelf.new ≡ F.faults shelf.old) }
     ensures come { OnOk result
         (HaveCome (names_by (options_in options.now).parting ++ names_in_blocks (options_in options.now).blocks) kept.old kept.new) }
-    ensures ok { IfOk result (λ p. (q : judged.Planned)
-        × Finds (F.told shelf.old) kept.old kept.new (IsPlannedIn (options_in options.now) (bound_of bound.now) q)
-        × AreAlike in_turn (planned_of p) q) }
+    ensures ok { IfOk result (λ p.
+        Finds (F.told shelf.old) kept.old kept.new (IsPlannedIn (options_in options.now) (bound_of bound.now) (planned_of p))) }
     ensures of { IfOk result (λ p. p.bound ≡ bound.now) }
     ensures err { IfErr result (HaltsOver (F.told shelf.old) kept.old
         (λ files r. PlanningAnswers Unplanned (options_in options.now) files (bound_of bound.now) (refused r))
@@ -100,5 +105,9 @@ pub fn planned_on<'a, 'b, F: Shelf>(
     let partition = partition_of(alloc, shelf, kept, options.parting)?;
     let owners = owners_of(alloc, options.ranks, options.parting, bound, &partition)?;
     let text = plan_text_of(alloc, shelf, kept, options.blocks)?;
-    plan_over(alloc, options.blocks, bound, owners, perms, &text, in_turn)
+    let asked = Colouring {
+        blocks: options.blocks,
+        text: &text,
+    };
+    plan_over(alloc, bound, owners, perms, &asked, gate)
 }

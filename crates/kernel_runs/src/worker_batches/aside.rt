@@ -12,9 +12,10 @@ ghost use Rattle.kernel_runs.specs.Asides.{IsAside};
 ghost use Rattle.kernel_runs.specs.Rounds.{CanRun, RanBatch};
 
 use crate::row_batches::{RowLoop, RowRoom, batch_at, run_aside};
+use crate::worker_batches::at_once::Workers;
 use crate::worker_batches::room::BatchPart;
 use kernel_columns::{Numbers, ROWS};
-use par_exec::{Open, PartJob, run_parts};
+use par_exec::{Gate, PartJob, run_parts};
 use std::marker::Sync;
 use std::thread::Threads;
 
@@ -57,12 +58,14 @@ fn run_in_room(
     run_aside(rows, batch, count, memory, room)
 }
 
-// The batches of a list of places.
+// The batches of a list of places of an item on a rank.
 #[derive(Drop)]
 struct Batches<'a, 'b> {
     rows: &'a RowLoop<'b>,
     places: &'a [u32],
     memory: &'a [i32],
+    item: u32,
+    rank: u32,
 }
 
 impl<'a, 'b> PartJob<BatchPart> for Batches<'a, 'b> {
@@ -72,31 +75,24 @@ impl<'a, 'b> PartJob<BatchPart> for Batches<'a, 'b> {
 
     ghost makes = { λ s i x y. RanBatch s.rows.now s.memory.now s.places.now i y };
 
-    fn run<R: Threads + Sync>(
-        &self,
-        _threads: &R,
-        _workers: u32,
-        index: usize,
-        part: &mut BatchPart,
-    ) {
+    fn run<G: Gate>(&self, gate: &G, index: usize, part: &mut BatchPart) {
         let at = index * ROWS;
         let count = ROWS.min(self.places.len() - at);
+        gate.begin(self.item, self.rank, &self.places[at..at + count]);
         part.batch = batch_at(self.places, at, count);
         part.ran = run_in_room(self.rows, &part.batch, count, self.memory, &mut part.room);
     }
 }
 
 /// Runs the kernel of a loop for the places of a list in batches of 64, each on columns of its own, by the `workers`,
-/// at least 1. There are no more parts than batches.
-pub fn run_all_aside<R: Threads + Sync>(
-    threads: &R,
-    workers: u32,
+/// whose gate is told of each batch just before, on the thread that runs it. There are no more parts than batches.
+pub fn run_all_aside<R: Threads + Sync, G: Gate + Sync>(
+    workers: &Workers<'_, R, G>,
     rows: &RowLoop<'_>,
     places: &[u32],
     memory: &[i32],
     parts: &mut [BatchPart],
 )
-    requires workers { 0 < workers }
     requires can { CanRun rows.now (length memory.now) places.now }
     requires there { (i : ℕ) → i < length parts.old → i * ROWS < length places.now }
     ensures { TakesEach (RanBatch rows.now memory.now places.now) 0 parts.new }
@@ -105,6 +101,9 @@ pub fn run_all_aside<R: Threads + Sync>(
         rows,
         places,
         memory,
+        item: workers.told.item,
+        rank: workers.told.rank,
     };
-    run_parts(threads, workers, &Open, &batches, parts);
+    let count = workers.count.max(1);
+    run_parts(workers.threads, count, workers.told.gate, &batches, parts);
 }

@@ -19,12 +19,14 @@ use crate::worker_batches::at_once::Workers;
 use crate::worker_batches::differing::all_differ;
 use crate::worker_batches::room::{BatchPart, BatchesRoom};
 use kernel_columns::ROWS;
+use par_exec::{Gate, ItemGate};
 use std::marker::Sync;
 use std::thread::Threads;
 
-// Puts back batches that ran aside, one after another, up to the first of which not all places ran. Answers for how
-// many places of the list, from the first on, the kernel ran.
-fn put_all(
+// Puts back batches that ran aside, one after another, up to the first of which not all places ran, and tells of each.
+// Answers for how many places of the list, from the first on, the kernel ran.
+fn put_all<G: Gate>(
+    told: &ItemGate<'_, G>,
     rows: &RowLoop<'_>,
     places: &[u32],
     parts: &[BatchPart],
@@ -50,6 +52,7 @@ fn put_all(
             return done;
         }
         put_aside(rows, &part.batch, part.ran, &part.room, memory, partials);
+        told.end(&places[done..done + part.ran]);
         done += part.ran;
         if part.ran < ROWS {
             return done;
@@ -60,8 +63,8 @@ fn put_all(
 
 /// Runs the kernel of a loop for the first places of a list, one after another on the memory, in batches that the
 /// workers run at once. Answers for how many.
-pub fn run_round<R: Threads + Sync>(
-    workers: &Workers<'_, R>,
+pub fn run_round<R: Threads + Sync, G: Gate + Sync>(
+    workers: &Workers<'_, R, G>,
     rows: &RowLoop<'_>,
     places: &[u32],
     memory: &mut [i32],
@@ -85,13 +88,6 @@ pub fn run_round<R: Threads + Sync>(
     }
     let count = batches_of(places.len()).min(room.parts.len());
     let parts = &mut room.parts[..count];
-    run_all_aside(
-        workers.threads,
-        workers.count.max(1),
-        rows,
-        places,
-        memory,
-        parts,
-    );
-    put_all(rows, places, parts, memory, partials)
+    run_all_aside(workers, rows, places, memory, parts);
+    put_all(workers.told, rows, places, parts, memory, partials)
 }

@@ -1,5 +1,5 @@
 -- What a rank has of a set by local numbers is what it owns and imports by original ones.
-use Rattle.std.proofs.Common.{◌≡◌, ◌≢◌, ◌<◌, ◌≤◌, ◌+◌, ◌-◌, ℕ, Bool, true, sym, ap, subst, ◌∙◌, ⊎_elim, arith, List, [], ◌∷◌, length, get_or, take, drop}
+use Rattle.std.proofs.Common.{◌≡◌, ◌≢◌, ◌<◌, ◌≤◌, ◌+◌, ◌-◌, ℕ, Bool, true, sym, ap, subst, ◌∙◌, ⊎_elim, arith, List, [], length, get_or, take, drop}
 use Rattle.std.specs.Prelude.{◌↔◌, ◌||◌, min, nat_eq, Contains}
 use Rattle.std.specs.Set.{is_member}
 use Rattle.std.proofs.lemmas.Bool.{cases_lt, or_cases, or_left, or_right, eqb-true}

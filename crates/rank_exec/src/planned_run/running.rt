@@ -65,8 +65,8 @@ fn peak_of<S: Steps>(
 // more.
 const MOST_HELD: usize = 2049;
 
-// The standard order of a plan. Where several workers run the program on several ranks, it is looked ahead for closed
-// groups of elements that come in rounds, so that each rank's first group is told too. An error is want of memory.
+// The standard order of a plan. Where several workers run the program, it is looked ahead for closed groups of elements
+// that come in rounds, so that each rank's first group is told too. An error is want of memory.
 fn standard_ahead<'s>(
     alloc: Global,
     program: &DistributedProgram<'_>,
@@ -80,7 +80,7 @@ fn standard_ahead<'s>(
 {
     let steps = standard_order(shape);
     let mut round = Vec::new(alloc);
-    if workers == 1 || program.owners.ranks == 1 {
+    if workers == 1 {
         return Ahead::new(alloc, steps, round, 0);
     }
     for item in 0..shape.items() {
@@ -99,7 +99,7 @@ fn standard_ahead<'s>(
 ///
 /// # Errors
 /// Want of memory alone.
-pub fn run_on_ranks<R: Threads + Sync, G: Gate>(
+pub fn run_on_ranks<R: Threads + Sync, G: Gate + Sync>(
     crew: &Crew<'_, R, G>,
     planned: &Planned<'_>,
     order: &Order<'_>,

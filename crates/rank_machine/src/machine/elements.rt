@@ -16,12 +16,15 @@ ghost use Rattle.rank_program.specs.Keeping.{KeepsIn};
 use crate::machine::Machine;
 use crate::running::{Cells, run_in};
 use crate::windows::{Begun, KernelRun, Windows};
-use kernel_runs::worker_batches::OneWorker;
+use kernel_runs::worker_batches::Workers;
+use par_exec::{Gate, ItemGate};
 use rank_program::{DistributedProgram, RankElements, Room, run_places};
 use rank_state::rank_memory::ending::Ending;
 use rank_state::rank_memory::loading::load;
 use rank_state::rank_memory::stop::least;
 use rank_state::{Scalar, Span};
+use std::marker::Sync;
+use std::thread::Threads;
 
 // How many cells the spans have.
 fn cells(spans: &[Span]) -> usize
@@ -117,36 +120,43 @@ impl Machine {
     }
 
     /// Runs the kernel for the elements at the places, one after another, and puts back at once what each leaves. No
-    /// frame is opened for them. `room` has the values of all constants.
-    pub fn in_place(
+    /// frame is opened for them. The gate is told of them, which says of which item and rank they are. `room` has the
+    /// values of all constants.
+    pub fn in_place<R: Threads + Sync, G: Gate + Sync>(
         &mut self,
+        threads: &R,
         program: &DistributedProgram<'_>,
-        item: u32,
-        rank: u32,
+        told: &ItemGate<'_, G>,
         places: &[u32],
         room: &mut Room,
     )
         requires sound { Sound program.now }
-        requires keeps { KeepsIn program.now item }
+        requires keeps { KeepsIn program.now told.now.item }
         requires some { 0 < length places.now }
-        requires steps { AllBegin (setup_in program.now) (layout_in program.now) (tables_in program.now) item rank places.now }
+        requires steps { AllBegin (setup_in program.now) (layout_in program.now) (tables_in program.now)
+            told.now.item told.now.rank places.now }
         requires sized { Sized (setup_in program.now) (layout_in program.now) (tables_in program.now) self.old }
         requires space { HasRoomOf program.now room.old }
         ensures runs { (new : Share KernelFault)
-            × Reaches (setup_in program.now) (layout_in program.now) (tables_in program.now) item rank
-            room.old.constants.items self.old.variables places.now (share_of rank self.old) (length places.now) new
-            × (self.new ≡ with_share rank new self.old) }
+            × Reaches (setup_in program.now) (layout_in program.now) (tables_in program.now) told.now.item told.now.rank
+            room.old.constants.items self.old.variables places.now (share_of told.now.rank self.old) (length places.now) new
+            × (self.new ≡ with_share told.now.rank new self.old) }
         ensures space { HasRoomOf program.now room.new }
     {
+        let rank = told.rank;
         let elements = RankElements {
             program,
-            item,
+            item: told.item,
             rank,
             places,
             variables: &self.variables,
         };
         let fault = run_places(
-            &OneWorker,
+            &Workers {
+                threads,
+                count: 1,
+                told,
+            },
             &elements,
             &mut self.memories[rank as usize],
             &mut self.partials[rank as usize],

@@ -29,7 +29,7 @@ impl Machine {
     /// leaves; the ranks are shared out among the workers of `crew`, and its gate is told of each rank just before. The
     /// faults are put together by increasing rank. There are as many lists of places and parts as ranks; the parts'
     /// rooms have the values of all constants.
-    pub fn on_ranks<R: Threads + Sync, G: Gate>(
+    pub fn on_ranks<R: Threads + Sync, G: Gate + Sync>(
         &mut self,
         crew: &Crew<'_, R, G>,
         program: &DistributedProgram<'_>,

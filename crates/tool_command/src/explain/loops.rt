@@ -24,6 +24,7 @@ use explanations::error_loops::{put_fault_loop, tells_fault, text_of_access};
 use explanations::held_files::HeldFiles;
 use job_inputs::kept_files::Kept;
 use job_inputs::{bound_input, expect_input};
+use par_exec::Open;
 use std::alloc::Global;
 use std::marker::Sync;
 use std::thread::Threads;
@@ -44,7 +45,7 @@ fn bound_again<'a>(
     let mut shelf = held.lent();
     let mut kept = Kept::new(alloc);
     expect_input(&mut kept, input)?;
-    match bound_input(alloc, &mut shelf, &mut kept, input) {
+    match bound_input(alloc, &mut shelf, &mut kept, input, &Open) {
         Ok(bound) => Ok(Some(bound)),
         Err(Halt::Refused(_)) => Ok(None),
         Err(Halt::Failed(failure)) => Err(Halt::Failed(failure)),

@@ -3,7 +3,7 @@ use Rattle.std.specs.Prelude.{slice_index_or}
 use Rattle.bound_program.specs.Values.{bound_of}
 use Rattle.loop_plan.specs.SharedPlans.{entries_of}
 use Rattle.loop_plan.specs.Places.{runs_free}
-use Rattle.loop_plan.specs.SitePlans.{IsPlanOf}
+use Rattle.loop_plan.specs.SitePlans.{IsLeastPlan}
 use Rattle.loop_plan.proofs.SitePlanning.{plans_kept}
 use Rattle.loop_plan.proofs.sites.site_plans.Goals as goal
 use Rattle.loop_plan.proofs.sites.site_plans.Goals.{then-is_running+in_ok-add_plan, else-is_running}
@@ -25,6 +25,6 @@ loop-site-preserved c =
           rw w.making-is (record {
             count = c.loop-site.invariant.count;
             each = c.loop-site.invariant.each;
-            plans = plans_kept b (IsPlanOf b meshes c.args.kind) n (entries_of c.loop-site.making.plans) idle c.loop-site.invariant.plans;
+            plans = plans_kept b (IsLeastPlan b meshes c.args.block) n (entries_of c.loop-site.making.plans) idle c.loop-site.invariant.plans;
           }))
     ]

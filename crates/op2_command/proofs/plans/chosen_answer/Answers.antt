@@ -11,7 +11,6 @@ use Rattle.job_inputs.specs.Inputs.{chosen_of}
 use Rattle.job_inputs.proofs.Public.{next_first, next_then, planning_halted, planning_answered}
 use Rattle.job_inputs.specs.Plans.{planned_of}
 use Rattle.op2_command.specs.Chains.{ScheduleAnswers}
-use Rattle.op2_command.proofs.InTurn.{schedules_alike}
 use Rattle.op2_command.proofs.plans.chosen_answer.Goals as goal
 
 pub planned_on-requires-clause-next : goal.planned_on-requires-clause-next
@@ -21,7 +20,7 @@ planned_on-requires-clause-next g c =
 
 pub returns-in_err-planned : goal.returns-in_err-planned
 returns-in_err-planned g c =
-    let p = err_from_is_err_and c.from_residual-in_err-planned.result c.from_residual-in_err-planned.ensures.1 in
+    let p = err_from_is_err_and c.from_residual.result c.from_residual.ensures.1 in
     rw (p.1, p.2) (planning_halted (λ files p. ScheduleAnswers (job_in c.args.job) (options_in c.args.options.now) (chosen_of c.args.chosen.now) p files)
     (options_in c.args.options.now) (bound_of c.args.chosen.now.bound) c.requires.fits
     (g.F.Shelf.told c.args.shelf.now) (Rose (g.F.Shelf.faults c.args.shelf.now) (g.F.Shelf.faults c.planned_on.new.shelf)) c.args.kept.now
@@ -46,10 +45,7 @@ returns g c =
     planning_answered (λ files p. ScheduleAnswers (job_in c.args.job) (options_in c.args.options.now) (chosen_of c.args.chosen.now) p files)
     (options_in c.args.options.now) (bound_of c.args.chosen.now.bound) c.requires.fits
     (g.F.Shelf.told c.args.shelf.now) (Rose (g.F.Shelf.faults c.args.shelf.now) (g.F.Shelf.faults c.scheduled.new.shelf)) c.args.kept.now
-    c.planned_on.new.kept (planned_of c.in_ok-planned.planned) c.in_ok-planned.ensures.ok.0 c.scheduled.result
-    (λ files a. schedules_alike (job_in c.args.job) (options_in c.args.options.now) (chosen_of c.args.chosen.now) (planned_of c.in_ok-planned.planned)
-    c.in_ok-planned.ensures.ok.0 files a c.in_ok-in_turn.in_turn c.in_ok-in_turn.ensures c.in_ok-planned.ensures.ok.2)
-    c.in_ok-planned.ensures.ok.1
+    c.planned_on.new.kept (planned_of c.in_ok-planned.planned) c.scheduled.result c.in_ok-planned.ensures.ok
     (next_first (names_by (options_in c.args.options.now).parting ++ names_in_blocks (options_in c.args.options.now).blocks) (names_at (options_in c.args.options.now).schedule)
     c.args.kept.now c.requires.next)
     c.in_ok-planned.ensures.come rest

@@ -1,4 +1,4 @@
-use Rattle.std.proofs.Common.{sym, ap, cond}
+use Rattle.std.proofs.Common.{sym, ap}
 use Rattle.std.proofs.lemmas.Result.{err_from_is_err_and}
 use Rattle.op_outside.specs.Outside.{Rose}
 use Rattle.loop_plan.specs.Planned.{outline_of}
@@ -7,8 +7,6 @@ use Rattle.command_words.specs.Words.{group_of}
 use Rattle.command_words.specs.Values.{options_in, job_in, schedule_in}
 use Rattle.job_inputs.specs.Plans.{planned_of}
 use Rattle.op2_command.specs.Chains.{chosen_in}
-use Rattle.command_words.specs.Halts.{answer_of}
-use Rattle.op2_command.proofs.InTurn.{standard_alike}
 use Rattle.op2_command.proofs.Planned.{standard_answered, drawn_answered, schedule_unread, text_answered}
 use Rattle.op2_command.proofs.plans.scheduled.Goals as goal
 
@@ -28,9 +26,7 @@ returns-in_ok-planned_answer-in-Standard g c =
     standard_answered (job_in c.args.task.now.job) o (chosen_in c.args.task.now.first c.args.planned.now) p (g.F.Shelf.told c.args.shelf.now)
     (Rose (g.F.Shelf.faults c.args.shelf.now) (g.F.Shelf.faults c.args.shelf.now)) c.args.kept.now c.in_ok-planned_answer-in-Standard.field-0
     (ap schedule_in c.in-Standard.is)
-    (standard_alike c.args.task.now.in_turn (job_in c.args.task.now.job) o (chosen_in c.args.task.now.first c.args.planned.now) p
-    (answer_of c.in_ok-planned_answer-in-Standard.field-0) c.requires.turn
-    (c.in_ok-planned_answer-in-Standard.ensures (standard shape (cond c.args.task.now.in_turn 1 (group_of o))) (ap (standard shape) (sym c.group-group.ensures))))
+    (c.in_ok-planned_answer-in-Standard.ensures (standard shape (group_of o)) (ap (standard shape) (sym c.group-group.ensures)))
 
 pub returns-in_ok-planned_answer-in-Drawn : goal.returns-in_ok-planned_answer-in-Drawn
 returns-in_ok-planned_answer-in-Drawn g c =

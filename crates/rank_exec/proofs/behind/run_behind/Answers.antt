@@ -80,7 +80,7 @@ run_round-requires-clause-few g c κs within =
     subst (λ n. n < 2 ^ 32) (sym c.loop-next.invariant.parts) (c.rounds_may_come-rounds.ensures.few on)
 
 pub run_told-requires-clause-ready : goal.run_told-requires-clause-ready
-run_told-requires-clause-ready g c =
+run_told-requires-clause-ready g c κs within =
     let p = setup_in c.args.program.now in
     let l = layout_in c.args.program.now in
     let t = tables_in c.args.program.now in
@@ -97,7 +97,7 @@ run_told-requires-clause-ready g c =
     (g.S.Steps.left c.loop-next.steps) c.loop-next.machine come refl)
 
 pub run_told-requires-clause-alone : goal.run_told-requires-clause-alone
-run_told-requires-clause-alone g c =
+run_told-requires-clause-alone g c κs within =
     let p = setup_in c.args.program.now in
     let l = layout_in c.args.program.now in
     let h = c.loop-next.invariant.done in
@@ -110,7 +110,7 @@ run_told-requires-clause-alone g c =
     (g.S.Steps.left c.loop-next.steps) come refl)
 
 pub run_told-requires-clause-some : goal.run_told-requires-clause-some
-run_told-requires-clause-some g c =
+run_told-requires-clause-some g c κs within =
     subst (λ (xs : List ℕ). 0 < length xs) (sym c.deref.ensures.value)
     (subst (λ o. IfSome o (λ x. 0 < length c.loop-next.room.places.items)) c.in-Some.is c.loop-next.invariant.some)
 

@@ -214,7 +214,7 @@ run_begins-requires-clause-alone g c κs within =
         (Begin c.in-Begin.item c.in-Begin.rank c.in-Begin.place) (c.in-Some.is ∙ ap Some c.in-Begin.is) c.loop-next.invariant.reached
 
 pub take-requires-clause-planned : goal.take-requires-clause-planned
-take-requires-clause-planned g c = c.requires.accepted.steps r.front c.in-Some.step (g.S.Steps.left c.loop-next.steps) r.split
+take-requires-clause-planned g c κs within = c.requires.accepted.steps r.front c.in-Some.step (g.S.Steps.left c.loop-next.steps) r.split
   where
     r : Reached (setup_in c.args.program.now) (layout_in c.args.program.now) (tables_in c.args.program.now)
         (g.S.Steps.left c.args.steps.now) (c.in-Some.step ∷ g.S.Steps.left c.loop-next.steps) c.args.machine.now c.loop-next.machine
@@ -223,7 +223,7 @@ take-requires-clause-planned g c = c.requires.accepted.steps r.front c.in-Some.s
         (c.in-Some.step) (c.in-Some.is) c.loop-next.invariant.reached
 
 pub take-requires-clause-shows : goal.take-requires-clause-shows
-take-requires-clause-shows g c = (
+take-requires-clause-shows g c κs within = (
   flat_from (setup_in c.args.program.now) (layout_in c.args.program.now) r.front c.requires.starts.0,
   r.shows c.requires.starts.0
       c.requires.starts.1 c.requires.starts.2,
@@ -236,7 +236,7 @@ take-requires-clause-shows g c = (
         (c.in-Some.step) (c.in-Some.is) c.loop-next.invariant.reached
 
 pub take-requires-clause-ready : goal.take-requires-clause-ready
-take-requires-clause-ready g c = by_step c.in-Some.step r.split
+take-requires-clause-ready g c κs within = by_step c.in-Some.step r.split
   where
     r : Reached (setup_in c.args.program.now) (layout_in c.args.program.now) (tables_in c.args.program.now)
         (g.S.Steps.left c.args.steps.now) (c.in-Some.step ∷ g.S.Steps.left c.loop-next.steps) c.args.machine.now c.loop-next.machine

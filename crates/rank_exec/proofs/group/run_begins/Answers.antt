@@ -22,13 +22,13 @@ use Rattle.rank_exec.proofs.Tasking.{planned_at, ran_well, still_enough, fewer}
 use Rattle.rank_exec.proofs.group.run_begins.Goals as goal
 
 pub run_told-requires-clause-some : goal.run_told-requires-clause-some
-run_told-requires-clause-some g c =
+run_told-requires-clause-some g c κs within =
     let n : length c.collect-next.new.places.items ≡ 1 = omega (arith, c.if-len-eq1.true, c.len.ensures) in
     let same = ap length c.deref.ensures.value in
     omega (arith, n, same)
 
 pub run_told-requires-clause-ready : goal.run_told-requires-clause-ready
-run_told-requires-clause-ready g c =
+run_told-requires-clause-ready g c κs within =
     let p = setup_in c.args.program.now in
     let l = layout_in c.args.program.now in
     let t = tables_in c.args.program.now in
@@ -50,7 +50,7 @@ run_told-requires-clause-ready g c =
     (ready_front p l t (Begin k r x ∷ left) (alone k r xs) rest c.args.machine.now c.requires.ready came)
 
 pub run_told-requires-clause-alone : goal.run_told-requires-clause-alone
-run_told-requires-clause-alone g c =
+run_told-requires-clause-alone g c κs within =
     let p = setup_in c.args.program.now in
     let l = layout_in c.args.program.now in
     let t = tables_in c.args.program.now in

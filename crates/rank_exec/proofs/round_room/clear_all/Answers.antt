@@ -1,4 +1,4 @@
-use Rattle.std.proofs.Common.{◌<◌, arith}
+use Rattle.std.proofs.Common.{arith}
 use Rattle.rank_exec.proofs.GatheredGroups.{all_empty}
 use Rattle.rank_exec.proofs.round_room.clear_all.Goals as goal
 

@@ -1,4 +1,4 @@
-use Rattle.std.proofs.Common.{◌≡◌, ℕ, ◌<◌, ap, ◌∙◌, refl, subst, arith}
+use Rattle.std.proofs.Common.{◌≡◌, ℕ, ap, ◌∙◌, refl, subst, arith}
 use Rattle.mesh_decl.specs.Mesh.{set_size, dat_set}
 use Rattle.rank_program.specs.Sound.{program_in, setup_in, layout_in, tables_in}
 use Rattle.rank_exec.specs.Standing.{StandOn}

@@ -11,7 +11,7 @@ use Rattle.rank_program.specs.Sound.{setup_in, layout_in, tables_in}
 use Rattle.rank_exec.proofs.told.run_told.Goals as goal
 
 pub in_place-requires-clause-steps : goal.in_place-requires-clause-steps
-in_place-requires-clause-steps c =
+in_place-requires-clause-steps g c κs within =
     let p = setup_in c.args.program.now in
     let l = layout_in c.args.program.now in
     let t = tables_in c.args.program.now in
@@ -21,7 +21,7 @@ in_place-requires-clause-steps c =
     (elements_ready p l t (c.places_stay_shut.ensures p l) c.args.of.alone k r c.args.places.now c.args.machine.now c.requires.shows.0 c.requires.shows.1 c.requires.ready)
 
 pub returns-clause-done : goal.returns-clause-done
-returns-clause-done c =
+returns-clause-done g c =
     let p = setup_in c.args.program.now in
     let l = layout_in c.args.program.now in
     let t = tables_in c.args.program.now in

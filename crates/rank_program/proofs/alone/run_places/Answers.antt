@@ -27,28 +27,28 @@ lengthen-requires g c =
     record { spare = omega (arith, few, c.requires.spare) }
 
 pub run_here-kept-requires-clause-can : goal.run_here-kept-requires-clause-can
-run_here-kept-requires-clause-can g c = record {
+run_here-kept-requires-clause-can g c κs within = record {
   sound = to_loop c.args.elements.now c.deref.result.now c.local_loop-local.result c.local_loop-local.ensures.of (λ d j q xs cs vs. Sound d) c.requires.sound;
   is = c.local_loop-local.ensures.is;
   keeps = to_loop c.args.elements.now c.deref.result.now c.local_loop-local.result c.local_loop-local.ensures.of (λ d j q xs cs vs. KeepsIn d j) c.requires.keeps;
 }
 
 pub run_here-kept-requires-clause-some : goal.run_here-kept-requires-clause-some
-run_here-kept-requires-clause-some g c =
+run_here-kept-requires-clause-some g c κs within =
     to_loop c.args.elements.now c.deref.result.now c.local_loop-local.result c.local_loop-local.ensures.of (λ d j q xs cs vs. 0 < length xs) c.requires.some
 
 pub run_here-kept-requires-clause-steps : goal.run_here-kept-requires-clause-steps
-run_here-kept-requires-clause-steps g c =
+run_here-kept-requires-clause-steps g c κs within =
     to_loop c.args.elements.now c.deref.result.now c.local_loop-local.result c.local_loop-local.ensures.of
     (λ d j q xs cs vs. AllBegin (setup_in d) (layout_in d) (tables_in d) j q xs) c.requires.steps
 
 pub run_here-kept-requires-clause-partials : goal.run_here-kept-requires-clause-partials
-run_here-kept-requires-clause-partials g c =
+run_here-kept-requires-clause-partials g c κs within =
     to_loop c.args.elements.now c.deref.result.now c.local_loop-local.result c.local_loop-local.ensures.of
     (λ d j q xs cs vs. length c.args.partials.now ≡ (tables_in d).slots) c.requires.partials
 
 pub run_here-kept-requires-clause-room : goal.run_here-kept-requires-clause-room
-run_here-kept-requires-clause-room g c =
+run_here-kept-requires-clause-room g c κs within =
     to_loop c.args.elements.now c.deref.result.now c.local_loop-local.result c.local_loop-local.ensures.of
     (λ d j q xs cs vs. HasKernelRoom d.locals c.args.room.now.kernels) c.requires.space.kernels_fit
 

@@ -6,7 +6,7 @@ use Rattle.rank_program.proofs.batches.run_all.Goals as goal
 use Rattle.rank_program.proofs.batches.run_all.Goals.{then-ran-gt0, else-ran-gt0}
 
 pub run_many-many-requires-clause-lent : goal.run_many-many-requires-clause-lent
-run_many-many-requires-clause-lent g c = still_lent c.args.run.now.local.now c.args.share.now c.loop-at.share c.loop-at.invariant.lent c.requires.lent
+run_many-many-requires-clause-lent g c κs within = still_lent c.args.run.now.local.now c.args.share.now c.loop-at.share c.loop-at.invariant.lent c.requires.lent
 
 pub run_rows-ran-requires-clause-lent : goal.run_rows-ran-requires-clause-lent
 run_rows-ran-requires-clause-lent g c =

@@ -7,7 +7,7 @@ use Rattle.rank_program.specs.Sound.{setup_in, layout_in, tables_in}
 use Rattle.rank_program.proofs.here.run_alone.Goals as goal
 
 pub loop-i-preserved : goal.loop-i-preserved
-loop-i-preserved c =
+loop-i-preserved g c =
     let l = c.args.local.now in
     let p = l.program.now in
     let inv = c.loop-i.invariant in
@@ -27,7 +27,7 @@ loop-i-preserved c =
     }
 
 pub returns-clause-runs : goal.returns-clause-runs
-returns-clause-runs c =
+returns-clause-runs g c =
     let l = c.args.local.now in
     let below = c.loop-i.invariant.below in
     let past = c.loop-i-test.false in

@@ -19,8 +19,8 @@ returns-then-count-eq0-clause-runs g c = goes_nowhere c.args.run.now.local.now c
 pub returns-then-not-all_count-clause-runs : goal.returns-then-not-all_count-clause-runs
 returns-then-not-all_count-clause-runs g c = goes_nowhere c.args.run.now.local.now c.args.at (share_in c.args.run.now.local.now c.args.share.now)
 
-pub run-requires-clause-can : goal.run-requires-clause-can
-run-requires-clause-can g c =
+pub run_at_once-requires-clause-can : goal.run_at_once-requires-clause-can
+run_at_once-requires-clause-can g c κs within =
     let l = c.args.run.now.local.now in
     let at = c.args.at in
     let count = c.min-count.result in
@@ -32,8 +32,8 @@ run-requires-clause-can g c =
     (length-take-le l.part.now.cells c.args.share.now.memory.now (let all = c.requires.lent.memory in omega (arith, all))) part
     (λ j lt. subst (BeginsAt l) (sym (are j (omega (arith, lt, size)))) (c.requires.can.steps (at + j) (omega (arith, lt, size, fits))))
 
-pub run-requires-clause-in_rows : goal.run-requires-clause-in_rows
-run-requires-clause-in_rows g c =
+pub run_at_once-requires-clause-in_rows : goal.run_at_once-requires-clause-in_rows
+run_at_once-requires-clause-in_rows g c κs within =
     let l = c.args.run.now.local.now in
     let at = c.args.at in
     let count = c.min-count.result in
@@ -54,7 +54,7 @@ returns-clause-few g c =
     let count = c.min-count.result in
     let fits : c.args.at + count ≤ length places = omega arith in
     let size = part_length places c.args.at count fits c.part_at-part.result.now c.part_at-part.ensures in
-    omega (arith, size, c.run.ensures.few)
+    omega (arith, size, c.run_at_once.ensures.few)
 
 pub returns-clause-runs : goal.returns-clause-runs
 returns-clause-runs g c =
@@ -71,6 +71,6 @@ returns-clause-runs g c =
     let counted : c.all_count.result ≡ true = grind (arith, common_steps, c.if-not-all_count.false) in
     rows_go_on l c.args.run.now.rows can.can can.rows can.steps
     c.steps_stand.ensures c.windows_stand.ensures.here c.windows_stand.ensures.cells c.element_windows_stand.ensures c.frames_are_reached.ensures c.finishes_here.ensures
-    share.memory.now (omega (arith, all)) at (length part) c.run.result c.run.ensures.few (omega (arith, size, fits))
+    share.memory.now (omega (arith, all)) at (length part) c.run_at_once.result c.run_at_once.ensures.few (omega (arith, size, fits))
     part (λ j lt. are j (omega (arith, lt, size))) (λ j lt. c.all_count.ensures counted j (omega (arith, lt, size)))
-    (stop_in share.fault) c.run.new.memory share.partials.now c.run.new.partials c.run.auto.memory c.run.ensures.ran
+    (stop_in share.fault) c.run_at_once.new.memory share.partials.now c.run_at_once.new.partials c.run_at_once.auto.memory c.run_at_once.ensures.ran

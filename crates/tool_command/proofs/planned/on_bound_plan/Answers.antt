@@ -1,4 +1,4 @@
-use Rattle.std.proofs.Common.{◌++◌, refl, subst}
+use Rattle.std.proofs.Common.{◌++◌}
 use Rattle.std.proofs.lemmas.Result.{err_from_is_err_and}
 use Rattle.op_outside.specs.Outside.{Rose}
 use Rattle.bound_program.specs.Values.{bound_of}
@@ -33,9 +33,7 @@ returns g c =
     let rest = rw c.in_ok-planned.ensures.of at (rw c.in_ok-planned.ensures.calm at (rw c.in_ok-planned.ensures.told at c.on_planned.ensures)) in
     planning_answered (OnPlanned (plan_job_of c.args.job) (bound_of c.args.bound.now)) (options_in c.args.options.now) (bound_of c.args.bound.now) c.requires.fits
     (g.F.Shelf.told c.args.shelf.now) (Rose (g.F.Shelf.faults c.args.shelf.now) (g.F.Shelf.faults c.on_planned.new.shelf)) c.args.kept.now
-    c.planned_on.new.kept (planned_of c.in_ok-planned.planned) c.in_ok-planned.ensures.ok.0 c.on_planned.result
-    (λ files a. subst (λ p. OnPlanned (plan_job_of c.args.job) (bound_of c.args.bound.now) files p a) (c.in_ok-planned.ensures.ok.2.same refl))
-    c.in_ok-planned.ensures.ok.1
+    c.planned_on.new.kept (planned_of c.in_ok-planned.planned) c.on_planned.result c.in_ok-planned.ensures.ok
     (next_first (names_by (options_in c.args.options.now).parting ++ names_in_blocks (options_in c.args.options.now).blocks) (names_for_plan (plan_job_of c.args.job))
     c.args.kept.now c.requires.next)
     c.in_ok-planned.ensures.come rest

@@ -3,6 +3,7 @@ use Rattle.op_outside.specs.Outside.{Rose}
 use Rattle.bound_program.specs.Values.{bound_of}
 use Rattle.command_words.specs.Words.{names_by, names_in_blocks}
 use Rattle.command_words.specs.Values.{options_in}
+use Rattle.job_inputs.specs.Plans.{planned_of}
 use Rattle.job_inputs.proofs.Chained.{if_ok_weaker, if_err_weaker}
 use Rattle.job_inputs.proofs.Jobs.{next_first, next_then, both_come}
 use Rattle.job_inputs.proofs.job_plans.Planning.{numbers_refused, parts_refused, owners_refused, colouring_refused, plan_refused, plan_found}
@@ -60,15 +61,11 @@ pub returns-clause-ok : goal.returns-clause-ok
 returns-clause-ok g c =
     let seen = rw c.in_ok-partition.ensures.told at c.in_ok-text.ensures.read in
     if_ok_weaker c.plan_over.result _ _
-    (λ p is. (
-      is.0,
-      plan_found (options_in c.args.options.now) (bound_of c.args.bound.now) (g.F.Shelf.told c.args.shelf.now)
-          (Rose (g.F.Shelf.faults c.args.shelf.now) (g.F.Shelf.faults c.plan_text_of.new.shelf)) c.args.kept.now c.in_ok-perms.perms c.in_ok-perms.ensures.ok
-          c.partition_of.new.kept c.in_ok-partition.partition.items c.in_ok-partition.ensures.read
-          c.in_ok-owners.owners (rw c.deref.ensures.value at c.in_ok-owners.ensures.ok) c.plan_text_of.new.kept c.in_ok-text.text.items seen
-          is.0 (rw c.deref-2.ensures.value at is.1),
-      is.2,
-    ))
+    (λ p is. plan_found (options_in c.args.options.now) (bound_of c.args.bound.now) (g.F.Shelf.told c.args.shelf.now)
+    (Rose (g.F.Shelf.faults c.args.shelf.now) (g.F.Shelf.faults c.plan_text_of.new.shelf)) c.args.kept.now c.in_ok-perms.perms c.in_ok-perms.ensures.ok
+    c.partition_of.new.kept c.in_ok-partition.partition.items c.in_ok-partition.ensures.read
+    c.in_ok-owners.owners (rw c.deref.ensures.value at c.in_ok-owners.ensures.ok) c.plan_text_of.new.kept c.in_ok-text.text.items seen
+    (planned_of p) (rw c.deref-2.ensures.value at is))
     c.plan_over.ensures.ok
 
 pub returns-clause-err : goal.returns-clause-err

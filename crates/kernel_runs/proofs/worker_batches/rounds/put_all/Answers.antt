@@ -3,14 +3,14 @@ use Rattle.kernel_runs.proofs.worker_batches.Puts.{none_put, put_more, reads_ali
 use Rattle.kernel_runs.proofs.worker_batches.rounds.put_all.Goals as goal
 
 pub loop-part-init : goal.loop-part-init
-loop-part-init c = record {
+loop-part-init g c = record {
   put = none_put c.args.rows.now c.args.places.now c.args.memory.now c.args.partials.now;
   done_is = refl;
   left = c.requires.ran;
 }
 
 pub put_aside-requires-clause-aside : goal.put_aside-requires-clause-aside
-put_aside-requires-clause-aside c =
+put_aside-requires-clause-aside g c =
     let y = c.args.rows.now in
     let places = c.args.places.now in
     let m = c.args.memory.now in
@@ -25,7 +25,7 @@ put_aside-requires-clause-aside c =
     (r.aside (some_of x.ran c.if-part-eq0.false))
 
 pub returns-then-part-lt-ROWS-clause-ran : goal.returns-then-part-lt-ROWS-clause-ran
-returns-then-part-lt-ROWS-clause-ran c =
+returns-then-part-lt-ROWS-clause-ran g c =
     let y = c.args.rows.now in
     let places = c.args.places.now in
     let m = c.args.memory.now in
@@ -39,7 +39,7 @@ returns-then-part-lt-ROWS-clause-ran c =
     inv.put c.put_aside.auto.memory c.put_aside.auto.partials c.put_aside.ensures.ran c.put_aside.ensures.others).ran
 
 pub loop-part-preserved : goal.loop-part-preserved
-loop-part-preserved c =
+loop-part-preserved g c =
     let y = c.args.rows.now in
     let places = c.args.places.now in
     let m = c.args.memory.now in
