@@ -1,10 +1,11 @@
 #!/usr/bin/env python3
 """Tries the wrong bodies of tests/wrong_bodies.toml: puts each into a copy of the code, compiles the program that it is of without any proof (tools/compile.py),
-and calls that as the rows say, or runs the script, that must then end in another way. A line for each body tells what refused it; the last line counts.
+and calls that as the rows say, or runs the script, that must then end in another way; or runs the tests of a crate of tests, of which those that are named must
+fail. A line for each body tells what refused it; the last line counts.
 Ends with the number of those that nothing refused, that didn't compile or that can't be put in, at most 100; with 101 where a name is that of none.
 Usage: tests/wrong_bodies.py [--list | --data | --unchanged] [--jobs N] [--level=-ON] [--op2 FILE] [--tools FILE] [NAME ..]
 """
-import argparse, multiprocessing, os, pathlib, shutil, signal, subprocess, sys, tempfile, tomllib
+import argparse, multiprocessing, os, pathlib, re, shutil, signal, subprocess, sys, tempfile, tomllib
 from types import SimpleNamespace
 
 sys.dont_write_bytecode = True
@@ -18,6 +19,8 @@ from repository import PROGRAMS
 FIELDS = {"name", "what", "crate", "program", "edits", "refused_by"}
 # The crate of each program. That of rows calls both others over files in memory: it alone has rows in which a read fails.
 CRATES = {**PROGRAMS, "op2_rows": "op2_rows"}
+# What runs tests of its own in place of a program that is called.
+TESTS = "op2_tests"
 SECONDS = 600  # for a script; those that stand here take 20
 rows.SECONDS = 60  # A wrong body may not end; a row that stands here ends in a second.
 
@@ -38,9 +41,14 @@ def is_script(by):
     return by.startswith("tests/")
 
 
+def is_test(by):
+    return by.startswith(f"{TESTS}: ")
+
+
 def tables_of(bodies):
     """The tables whose rows refuse some of the bodies, by their names."""
-    paths = {name: rows.table_of(name) for name in {by.split(": ")[0] for body in bodies for by in body["refused_by"] if not is_script(by)}}
+    named = [by for body in bodies for by in body["refused_by"] if not is_script(by) and not is_test(by)]
+    paths = {name: rows.table_of(name) for name in {by.split(": ")[0] for by in named}}
     return {name: rows.read_table(path) for name, path in paths.items() if path.is_file()}
 
 
@@ -72,15 +80,23 @@ def edited_files(body):
 
 def look(body, tables):
     """Looks whether a body can be put in, and whether there is what must refuse it."""
-    if body.keys() ^ FIELDS not in (set(), {"program"}) or program_of(body) not in CRATES or not body["edits"] or not body["refused_by"]:
+    if body.keys() ^ FIELDS not in (set(), {"program"}) or program_of(body) not in {*CRATES, TESTS} or not body["edits"] or not body["refused_by"]:
         raise Unfit("a field is missing, or isn't one")
     edited_files(body)
     for by in body["refused_by"]:
-        if is_script(by):
+        if is_test(by) or program_of(body) == TESTS:
+            if program_of(body) != TESTS or by.removeprefix(f"{TESTS}: ") not in tests_there():
+                raise Unfit(f"no test {by!r}")
+        elif is_script(by):
             if not (top / by.split()[0]).is_file():
                 raise Unfit(f"no script {by!r}")
         elif rows.is_left_out(row_of(tables, by)[1]) and program_of(body) != "op2_rows":
             raise Unfit(f"only op2_rows can call the row {by!r}")
+
+
+def tests_there():
+    """The names of the tests of the crate of tests."""
+    return {name for path in (top / "crates" / TESTS / "src").glob("*.rt") for name in re.findall(r"#\[test\]\nfn (\w+)", path.read_text())}
 
 
 def ends_well(words, asked, seconds, folder):
@@ -111,13 +127,28 @@ def refuses(tables, asked, by):
     return bool(rows.differences(asked, *row_of(tables, by)))
 
 
-def compiled(body, level, folder):
-    """Makes a copy of the code with the body in it, and its program."""
+def copied(body, folder):
+    """Makes a copy of the code with the body in it."""
     shutil.copytree(top / "crates", folder / "crates", ignore=shutil.ignore_patterns("out"))
     for name in ("crates.txt", "HANDLES"):
         shutil.copy(top / name, folder / name)
     for path, text in edited_files(body).items():
         (folder / path).write_text(text)
+
+
+def failing(body, folder):
+    """The tests that fail with the body in the code, of those that must refuse it."""
+    copied(body, folder)
+    done = subprocess.run(["rt", "try", "--test"], cwd=folder / "crates" / TESTS, stdin=subprocess.DEVNULL, capture_output=True, text=True, timeout=SECONDS)
+    ends = dict(re.findall(r"^test (?:\w+::)*(\w+) \.\.\. (\w+)$", done.stdout, re.M))
+    if not ends:
+        raise NotCompiled(done.stdout[-300:] + done.stderr[-300:])
+    return [by for by in body["refused_by"] if ends.get(by.removeprefix(f"{TESTS}: ")) == "FAILED"]
+
+
+def compiled(body, level, folder):
+    """The program of a copy of the code with the body in it."""
+    copied(body, folder)
     program = folder / "program"
     compile_program(CRATES[program_of(body)], str(program), str(folder), level=level)
     return program
@@ -128,10 +159,13 @@ def try_body(body, tables, asked):
     with tempfile.TemporaryDirectory(prefix="op2-wrong-") as name:
         try:
             look(body, tables)
+            if program_of(body) == TESTS:
+                refused_by = failing(body, pathlib.Path(name))
+                return ("refused", f" by {', '.join(refused_by)}") if refused_by else ("NOT REFUSED", "")
             program = compiled(body, asked.level, pathlib.Path(name))
         except Unfit as unfit:
             return "unfit", f": {unfit}"
-        except (NotCompiled, OSError) as error:
+        except (NotCompiled, OSError, subprocess.TimeoutExpired) as error:
             return "not compiled", f": {error}"
         field = {"op2": "op2", "op2-tools": "tools", "op2_rows": "rows"}[program_of(body)]
         wrong = SimpleNamespace(**{"op2": asked.op2, "tools": asked.tools, "rows": None} | {field: program})
@@ -179,7 +213,7 @@ def look_at_all(bodies):
 def call_unchanged(bodies, asked):
     """Tells of each row and script that refuses the programs as they stand."""
     tables, differing = tables_of(bodies), 0
-    named = dict.fromkeys(by for body in bodies for by in body["refused_by"])
+    named = dict.fromkeys(by for body in bodies for by in body["refused_by"] if not is_test(by))
     for by in named:
         if refuses(tables, SimpleNamespace(op2=asked.op2, tools=asked.tools, rows=None), by):
             differing += 1
