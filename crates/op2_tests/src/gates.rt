@@ -9,7 +9,7 @@ use std::test::Fail;
 use std::thread::Threads;
 
 // A source of one set and one dat of one cell, and one loop over it; its print comes last.
-const BUMP: &str = "extern int n;
+pub const BUMP: &str = "extern int n;
 extern int a0[];
 void bump(int *a) { a[0] = a[0] + 1; }
 int main(int argc, char **argv) {
@@ -49,7 +49,7 @@ int main(int argc, char **argv) {
 }
 ";
 
-const TWO: &str = "op2mesh 1 int n 2 ints a0 2 5 7 done";
+pub const TWO: &str = "op2mesh 1 int n 2 ints a0 2 5 7 done";
 
 const SIXTY_FOUR: &str = "op2mesh 2 int n 64 ints a0 64 64*0 done";
 
@@ -60,7 +60,7 @@ const THOUSANDS: &str = "op2mesh 2 int n 20000 ints a0 20000 20000*0 done";
 const PRINTED: &str = "a: a s 2 1\n6\n8\n";
 
 // Both elements are open at once.
-const TOGETHER: &str = "op2sched 1
+pub const TOGETHER: &str = "op2sched 1
 begin 0 0 0
 begin 0 0 1
 end 0 0 1

@@ -14,4 +14,6 @@ mod orders;
 #[cfg(test)]
 mod schedule_text;
 #[cfg(test)]
+mod sure;
+#[cfg(test)]
 mod told;
