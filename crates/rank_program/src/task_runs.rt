@@ -9,9 +9,9 @@ use std::marker::Sync;
 use std::thread::Threads;
 
 /// Runs a job's kernel once for each of its tasks, on the first cells of the task's window of `staging`, by the workers
-/// of `crew`, whose gate is told of each task just before, by its number and as an element of an item on a rank. A window has `window` cells, more than its
-/// task's cells and the kernel's slots together. Behind the task's cells stands a 0 then, or a 1 where the run had a
-/// fault, after which its cells mean nothing. Takes no memory.
+/// of `crew`. Its gate is told of each task just before, by its number and as an element of an item on a rank. A window
+/// has `window` cells, more than its task's cells and the kernel's slots together. Behind the task's cells stands a 0
+/// then, or a 1 where the run had a fault, after which its cells mean nothing. Takes no memory.
 pub fn run_tasks<R: Threads + Sync, G: Gate + Sync>(
     crew: &Crew<'_, R, G>,
     told: &ItemGate<'_, G>,
