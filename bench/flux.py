@@ -76,7 +76,7 @@ for n in sizes:
         calls = [[op2, "check", work + "/s1.c", work + "/m"], *([op2, "run", f"{work}/s{k}.c", work + "/m"] for k in (1, 2))]
         check, once, twice = least(calls, times)
         each = 1e9 / len(edges)
-        line = f"{name}, {len(edges)} edges: run less check {(once - check) * each:.1f} ns an edge, a second loop {(twice - once) * each:.1f} ns"
+        line = f"{name}, {len(edges)} edges: run {once * each:.1f} ns an edge, less check {(once - check) * each:.1f} ns, a second loop {(twice - once) * each:.1f} ns"
         c = compiled(work, "flux", PLAIN)
         if c:
             line += f"; plain C {plain([c, work + '/b']):.1f} ns"

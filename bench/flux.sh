@@ -1,6 +1,6 @@
 #!/bin/sh
 # Times the flux kernel in runs of one loop and of two, on the edges of a grid of N times N nodes and on as many of a triangulation whose
-# blocks take six colours and more: nanoseconds of the processor an edge, of a run less its check and of the second loop, and machine
+# blocks take six colours and more: nanoseconds of the processor an edge, of a run, of that less its check and of the second loop, and machine
 # instructions where there are at most 200,000 edges and valgrind is there, beside plain C by gcc -O2 where gcc is there. Then times
 # compiled kernels alone: the flux kernel of the job `flux` of crates/op2_bench, for each of so many edges one after another in place on whole arrays.
 # Usage: bench/flux.sh [N ..]     (300 1000 where none is given; OP2 may name another program)
