@@ -6,7 +6,7 @@ ghost use Rattle.kernel_model.specs.Stores.{target_at, read_arg, store_arg};
 ghost use Rattle.kernel_model.specs.Framed.{windows_of, targets_of, FitsIn, PlacesIn};
 
 /// Where an argument's cells stand in the buffer: `count` cells from the cell `from` on.
-#[derive(Clone, Copy, PartialEq, Eq, Debug)]
+#[derive(Clone, Copy, Default, PartialEq, Eq, Debug)]
 pub struct Place {
     pub from: usize,
     pub count: usize,
