@@ -20,5 +20,5 @@ pub use code::{Code, compile, run, run_on};
 pub use codes::{compile_all, room_for};
 pub use kernel_model::types::{AssignOp, BinaryOp, Fault, KernelFault, MinMax, Pos, UnaryOp};
 pub use laws::codes_mean;
-pub use op::{Element, Op};
-pub use part::Part;
+pub use op::{Element, Op, Operator};
+pub use part::{Counter, Part};
