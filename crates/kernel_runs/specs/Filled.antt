@@ -10,13 +10,13 @@ use Rattle.kernel_runs.specs.RowLoops.{column_in}
 module _ (numbers : List (List ℕ)) where
   -- the cells of a column in a memory, by row
   abbrev pub cells_of : RowColumn → ℕ → ℕ
-  cells_of y = stands_in_row y.cell y.dim 0 (get_or numbers y.way [])
+  cells_of y = stands_in_row y.cell y.dim (get_or numbers y.way [])
 
 module _ (numbers : List (List ℕ)) (rows : ℕ) where
   -- the cells of a column stand within a memory of so many cells, in each row
   pub record ColumnStands (cells : ℕ) (y : RowColumn) : Type 0 where
     pub way : y.way < length numbers
-    pub within : StandWithin rows cells y.cell y.dim 0 (get_or numbers y.way [])
+    pub within : StandWithin rows cells y.cell y.dim (get_or numbers y.way [])
 
   -- the cells of each column stand there
   abbrev pub ColumnsStand : (cells : ℕ) → List RowColumn → Type 0

@@ -1,14 +1,15 @@
 -- Amounts that are merged into partials, row by row or column by column.
-use Rattle.std.proofs.Common.{◌≡◌, ◌≢◌, ℕ, zero, suc, ℤ, pos, ◌<◌, ◌≤◌, ⊎_elim, List, [], ◌∷◌, length, get_or, set, refl, sym, ap, ◌∙◌, subst, arith, get_or-set_other, get_or-set_same}
+use Rattle.std.proofs.Common.{◌≡◌, ℕ, zero, suc, ℤ, pos, ◌<◌, ◌≤◌, ⊎_elim, List, [], ◌∷◌, length, get_or, set, refl, sym, ap, ◌∙◌, subst, arith, get_or-set_same}
 use Rattle.std.proofs.lemmas.Bool.{cases_eq}
-use Rattle.std.proofs.lemmas.List.{set_comm, set-set, set-get_or, length-set}
+use Rattle.std.proofs.lemmas.List.{set-set, set-get_or, length-set}
 use Rattle.op_num.specs.Reduction.{Reduction, unit_of, merged, IsCommuting}
 use Rattle.op_num.specs.Access.{OpRead, OpReduce}
 use Rattle.rank_state.specs.declared.scalars.Scalar.{Scalar}
 use Rattle.rank_state.specs.declared.scalars.Scalar.TheVariants.{Value, Amount}
 use Rattle.rank_state.specs.Windows.{operation, amount, amounts, InSlots, Merges}
 use Rattle.kernel_columns.specs.Rows.{at_row, row}
-use Rattle.kernel_columns.specs.Moving.{total}
+use Rattle.kernel_columns.specs.Moving.{merged_at, total}
+use Rattle.kernel_columns.proofs.Public.{total-zero, total-suc, one_cell, apart_two}
 use Rattle.kernel_runs.specs.RowLoops.{AllowsScalar, MergeAlike, scalar_in}
 use Rattle.kernel_runs.specs.Put.{total_put, totals}
 
@@ -16,14 +17,6 @@ use Rattle.kernel_runs.specs.Put.{total_put, totals}
 abbrev pub rows_merged : List Scalar → List (List ℤ) → ℕ → List ℤ → List ℤ
 rows_merged xs cs zero p = p
 rows_merged xs cs (suc n) p = amounts xs (row n cs) (rows_merged xs cs n p)
-
-total-zero : (r : Reduction) (column : List ℤ) (a : ℤ) → total r column 0 a ≡ a
-unfolding total
-total-zero r column a = refl
-
-total-suc : (r : Reduction) (column : List ℤ) (n : ℕ) (a : ℤ) → total r column (suc n) a ≡ merged r (total r column n a) (at_row n column)
-unfolding total
-total-suc r column n a = refl
 
 -- those of the first n rows of a column
 abbrev total_in : ℕ → Scalar → List ℤ → List ℤ → List ℤ
@@ -44,80 +37,39 @@ all_totals n [] cs p = refl
 all_totals n (x ∷ xs) [] p = refl
 all_totals n (x ∷ xs) (c ∷ cs) p = all_totals n xs cs (total_put n x c p) ∙ ap (all_in n xs cs) (put_total n x c p)
 
-long_one : (x : Scalar) (v : ℤ) (p : List ℤ) → length (amount x v p) ≡ length p
-long_one (Value at) v p = refl
-long_one (Amount at slot how) v p = length-set p slot (merged (operation how) (get_or p slot (pos 0)) v)
-
 long_total : (n : ℕ) (x : Scalar) (c p : List ℤ) → length (total_in n x c p) ≡ length p
 long_total n (Value at) c p = refl
 long_total n (Amount at slot how) c p = length-set p slot (total (operation how) c n (get_or p slot (pos 0)))
-
-long_amounts : (xs : List Scalar) (ws p : List ℤ) → length (amounts xs ws p) ≡ length p
-long_amounts [] ws p = refl
-long_amounts (x ∷ xs) [] p = refl
-long_amounts (x ∷ xs) (w ∷ ws) p = long_amounts xs ws (amount x w p) ∙ long_one x w p
-
-long_rows : (xs : List Scalar) (cs : List (List ℤ)) (n : ℕ) (p : List ℤ) → length (rows_merged xs cs n p) ≡ length p
-long_rows xs cs zero p = refl
-long_rows xs cs (suc n) p = long_amounts xs (row n cs) (rows_merged xs cs n p) ∙ long_rows xs cs n p
-
-in_as_many : (n k : ℕ) (x : Scalar) → n ≡ k → InSlots n x → InSlots k x
-in_as_many n k x e s = subst (λ z. InSlots z x) e s
 
 all_in_as_many : (n k : ℕ) (xs : List Scalar) → n ≡ k → Merges n xs → Merges k xs
 all_in_as_many n k xs e s = subst (λ z. Merges z xs) e s
 
 module _ (laws : (r : Reduction) → IsCommuting (unit_of r) (merged r)) where
-  again : (r : Reduction) (x d e : ℤ) → merged r (merged r x e) d ≡ merged r (merged r x d) e
-  again r x d e = (laws r).associates x e d ∙ ap (merged r x) ((laws r).commutes e d) ∙ sym ((laws r).associates x d e)
-
-  abbrev at_slot : Reduction → ℕ → ℤ → List ℤ → List ℤ
-  at_slot r s v p = set p s (merged r (get_or p s (pos 0)) v)
-
-  twice : (r : Reduction) (s : ℕ) (v w : ℤ) (p : List ℤ) → s < length p → at_slot r s v (at_slot r s w p) ≡ set p s (merged r (merged r (get_or p s (pos 0)) w) v)
-  twice r s v w p lt =
-      let x = merged r (get_or p s (pos 0)) w in
-      set-set p s x (merged r (get_or (set p s x) s (pos 0)) v) ∙ ap (λ y. set p s (merged r y v)) (get_or-set_same p s x (pos 0) lt)
-
-  one_slot : (r : Reduction) (s : ℕ) (v w : ℤ) (p : List ℤ) → s < length p → at_slot r s v (at_slot r s w p) ≡ at_slot r s w (at_slot r s v p)
-  one_slot r s v w p lt =
-      twice r s v w p lt ∙ ap (set p s) (again r (get_or p s (pos 0)) v w) ∙ sym (twice r s w v p lt)
-
-  two_slots : (r q : Reduction) (s t : ℕ) (v w : ℤ) (p : List ℤ) → s ≢ t → at_slot r s v (at_slot q t w p) ≡ at_slot q t w (at_slot r s v p)
-  two_slots r q s t v w p ne =
-      let back : t ≢ s = λ e. ne (sym e) in
-      let x = merged q (get_or p t (pos 0)) w in
-      let z = merged r (get_or p s (pos 0)) v in
-      ap (λ k. set (set p t x) s (merged r k v)) (get_or-set_other p t s x (pos 0) ne)
-      ∙ set_comm p t s x z back
-      ∙ ap (λ k. set (set p s z) t (merged q k w)) (sym (get_or-set_other p s t z (pos 0) back))
-
-  swap : (x z : Scalar) (v w : ℤ) (p : List ℤ) → MergeAlike x z → InSlots (length p) x → amount x v (amount z w p) ≡ amount z w (amount x v p)
-  swap (Value at) z v w p alike inside = refl
-  swap (Amount at slot how) (Value at') v w p alike inside = refl
-  swap (Amount at slot how) (Amount at' slot' how') v w p alike inside = ⊎_elim
+  swap : (x z : Scalar) (v w : ℤ) (p : List ℤ) → MergeAlike x z → amount x v (amount z w p) ≡ amount z w (amount x v p)
+  swap (Value at) z v w p alike = refl
+  swap (Amount at slot how) (Value at') v w p alike = refl
+  swap (Amount at slot how) (Amount at' slot' how') v w p alike = ⊎_elim
       (λ (e : slot ≡ slot').
-      subst (λ q. at_slot (operation how) slot v (at_slot (operation q) slot' w p) ≡ at_slot (operation q) slot' w (at_slot (operation how) slot v p)) (alike e)
-      (subst (λ t. at_slot (operation how) slot v (at_slot (operation how) t w p) ≡ at_slot (operation how) t w (at_slot (operation how) slot v p)) e
-      (one_slot (operation how) slot v w p inside)))
-      (λ (ne : slot ≡ slot' → ⊥). two_slots (operation how) (operation how') slot slot' v w p ne)
+      subst (λ q. merged_at (operation how) slot v (merged_at (operation q) slot' w p) ≡ merged_at (operation q) slot' w (merged_at (operation how) slot v p)) (alike e)
+      (subst (λ t. merged_at (operation how) slot v (merged_at (operation how) t w p) ≡ merged_at (operation how) t w (merged_at (operation how) slot v p)) e
+      (one_cell laws (operation how) slot v w p)))
+      (λ (ne : slot ≡ slot' → ⊥). apart_two (operation how) (operation how') slot slot' v w p ne)
       (cases_eq slot slot')
 
   past_amounts : (x : Scalar) (v : ℤ) (xs : List Scalar) (ws p : List ℤ) → ((j : ℕ) → j < length xs → MergeAlike x (scalar_in xs j))
-      → InSlots (length p) x → amount x v (amounts xs ws p) ≡ amounts xs ws (amount x v p)
-  past_amounts x v [] ws p alike inside = refl
-  past_amounts x v (z ∷ xs) [] p alike inside = refl
-  past_amounts x v (z ∷ xs) (w ∷ ws) p alike inside =
-      past_amounts x v xs ws (amount z w p) (λ j lt. alike (suc j) (omega arith)) (in_as_many (length p) (length (amount z w p)) x (sym (long_one z w p)) inside)
-      ∙ ap (amounts xs ws) (swap x z v w p (alike 0 (omega arith)) inside)
+      → amount x v (amounts xs ws p) ≡ amounts xs ws (amount x v p)
+  past_amounts x v [] ws p alike = refl
+  past_amounts x v (z ∷ xs) [] p alike = refl
+  past_amounts x v (z ∷ xs) (w ∷ ws) p alike =
+      past_amounts x v xs ws (amount z w p) (λ j lt. alike (suc j) (omega arith))
+      ∙ ap (amounts xs ws) (swap x z v w p (alike 0 (omega arith)))
 
   past_rows : (x : Scalar) (v : ℤ) (xs : List Scalar) (cs : List (List ℤ)) (n : ℕ) (p : List ℤ)
-      → ((j : ℕ) → j < length xs → MergeAlike x (scalar_in xs j)) → InSlots (length p) x
+      → ((j : ℕ) → j < length xs → MergeAlike x (scalar_in xs j))
       → amount x v (rows_merged xs cs n p) ≡ rows_merged xs cs n (amount x v p)
-  past_rows x v xs cs zero p alike inside = refl
-  past_rows x v xs cs (suc n) p alike inside =
-      past_amounts x v xs (row n cs) (rows_merged xs cs n p) alike (in_as_many (length p) (length (rows_merged xs cs n p)) x (sym (long_rows xs cs n p)) inside)
-      ∙ ap (amounts xs (row n cs)) (past_rows x v xs cs n p alike inside)
+  past_rows x v xs cs zero p alike = refl
+  past_rows x v xs cs (suc n) p alike =
+      past_amounts x v xs (row n cs) (rows_merged xs cs n p) alike ∙ ap (amounts xs (row n cs)) (past_rows x v xs cs n p alike)
 
   none_in : (x : Scalar) (c p : List ℤ) → total_in 0 x c p ≡ p
   none_in (Value at) c p = refl
@@ -138,7 +90,7 @@ module _ (laws : (r : Reduction) → IsCommuting (unit_of r) (merged r)) where
     column_first zero = none_in x c p
     column_first (suc n) =
         ap (λ q. amounts xs (row n cs) (rows_merged xs cs n q)) (one_more n x c p inside)
-        ∙ ap (amounts xs (row n cs)) (sym (past_rows x (at_row n c) xs cs n (total_in n x c p) alike (in_as_many (length p) (length (total_in n x c p)) x (sym (long_total n x c p)) inside)))
+        ∙ ap (amounts xs (row n cs)) (sym (past_rows x (at_row n c) xs cs n (total_in n x c p) alike))
         ∙ ap (λ q. amounts xs (row n cs) (amount x (at_row n c) q)) (column_first n)
 
   no_scalars : (cs : List (List ℤ)) (n : ℕ) (p : List ℤ) → rows_merged [] cs n p ≡ p

@@ -41,7 +41,6 @@ fn fill_column(
             &numbers[column.way],
             column.cell,
             column.dim,
-            0,
             cells,
             rows,
         ),
