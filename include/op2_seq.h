@@ -1,16 +1,22 @@
 // The calls of a source for op2, so that a C compiler can make a program of it: each loop runs one element after another, in the order of its
 // set. docs/COMPILERS.md says how it is used, with which flags, and what it doesn't see.
-// It is for sources that op2 accepts: it judges nothing. Names that begin with op_seq_ or OP_SEQ_ are its own.
+// It is for sources that op2 accepts: it judges nothing. Names that begin with op_seq_ or OP_SEQ_ are its own. The compiler may be one of C++ too.
 #ifndef OP2_SEQ_H
 #define OP2_SEQ_H
 
 #include <stddef.h>
 
-// Declared here and not by the headers of the C library, whose other names a source may use as its own.
-int printf(const char *format, ...);
-void *malloc(size_t size);
-void free(void *data);
-void abort(void);
+// Declared here and not by the headers of the C library, whose other names a source may use as its own. In C++ a declaration would have to say of
+// exceptions what these headers say, which differs; what the compiler knows as its own needs none.
+#ifdef __cplusplus
+#define OP_SEQ_LIBRARY(function) __builtin_##function
+#else
+#define OP_SEQ_LIBRARY(function) function
+int (printf)(const char *format, ...);
+void *(malloc)(size_t size);
+void (free)(void *data);
+void (abort)(void);
+#endif
 
 typedef struct op_seq_set {
     int size;
@@ -57,7 +63,7 @@ static inline void op_init(int argc, char **argv, int level) {
 }
 
 static inline void op_exit(void) {
-    while (op_seq_dat_count > 0) free(op_seq_dats[--op_seq_dat_count].values);
+    while (op_seq_dat_count > 0) OP_SEQ_LIBRARY(free)(op_seq_dats[--op_seq_dat_count].values);
 }
 
 static inline op_set op_decl_set(int size, const char *name) {
@@ -86,8 +92,8 @@ static inline op_dat op_seq_decl_dat(op_set set, const char *set_name, int dim, 
     dat->set = set;
     dat->set_name = set_name;
     dat->dim = dim;
-    dat->values = (int *)malloc(count * sizeof(int) + 1);
-    if (!dat->values) abort();
+    dat->values = (int *)OP_SEQ_LIBRARY(malloc)(count * sizeof(int) + 1);
+    if (!dat->values) OP_SEQ_LIBRARY(abort)();
     for (i = 0; i < count; i++) dat->values[i] = values[i];
     return dat;
 }
@@ -118,16 +124,16 @@ static inline int *op_seq_cells(const op_seq_arg *arg, ptrdiff_t element) {
     return arg->cells + arg->dim * (arg->targets ? arg->targets[arg->arity * element] : element);
 }
 
-#define op_printf(...) ((void)printf(__VA_ARGS__))
+#define op_printf (void)OP_SEQ_LIBRARY(printf)
 
 #define op_print_dat_to_txtfile(dat, file) op_seq_print_dat(dat, #dat, file)
 
 static inline void op_seq_print_dat(op_dat dat, const char *name, const char *file) {
     int element, i;
     const int *value = dat->values;
-    printf("%s: %s %s %d %d\n", file, name, dat->set_name, dat->set->size, dat->dim);
+    OP_SEQ_LIBRARY(printf)("%s: %s %s %d %d\n", file, name, dat->set_name, dat->set->size, dat->dim);
     for (element = 0; element < dat->set->size; element++)
-        for (i = 0; i < dat->dim; i++) printf(i + 1 < dat->dim ? "%d " : "%d\n", *value++);
+        for (i = 0; i < dat->dim; i++) OP_SEQ_LIBRARY(printf)(i + 1 < dat->dim ? "%d " : "%d\n", *value++);
 }
 
 // A loop with 1 to 16 arguments: the kernel is called by its name, so that the compiler compares the types and can put it in place.
