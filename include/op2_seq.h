@@ -54,7 +54,8 @@ static int op_seq_set_count, op_seq_map_count, op_seq_dat_count;
 
 #define MIN(a, b) ((a) < (b) ? (a) : (b))
 #define MAX(a, b) ((a) > (b) ? (a) : (b))
-#define ABS(a) ((a) < 0 ? -(a) : (a))
+// By `-(a)` gcc 12 would take `ABS(x) <= 2` for a test of a range, which is wrong for the least number, with -fwrapv too.
+#define ABS(a) ((int)((a) < 0 ? 0u - (unsigned)(a) : (unsigned)(a)))
 
 static inline void op_init(int argc, char **argv, int level) {
     (void)argc;
