@@ -52,10 +52,14 @@ static struct op_seq_map op_seq_maps[64];
 static struct op_seq_dat op_seq_dats[256];
 static int op_seq_set_count, op_seq_map_count, op_seq_dat_count;
 
-#define MIN(a, b) ((a) < (b) ? (a) : (b))
-#define MAX(a, b) ((a) > (b) ? (a) : (b))
+// By `0 +` an argument that is a comparison, or a result that is a condition, gives no warning that would name a line of this file.
+#undef MIN
+#undef MAX
+#undef ABS
+#define MIN(a, b) (0 + (0 + (a) < 0 + (b) ? (a) : (b)))
+#define MAX(a, b) (0 + (0 + (a) > 0 + (b) ? (a) : (b)))
 // By `-(a)` gcc 12 would take `ABS(x) <= 2` for a test of a range, which is wrong for the least number, with -fwrapv too.
-#define ABS(a) ((int)((a) < 0 ? 0u - (unsigned)(a) : (unsigned)(a)))
+#define ABS(a) ((int)(0 + (a) < 0 ? 0u - (unsigned)(a) : 0u + (unsigned)(a)))
 
 static inline void op_init(int argc, char **argv, int level) {
     (void)argc;
