@@ -172,4 +172,17 @@ static inline void op_seq_print_dat(op_dat dat, const char *name, const char *fi
 #define OP_SEQ_15 OP_SEQ_14, OP_SEQ_AT(14)
 #define OP_SEQ_16 OP_SEQ_15, OP_SEQ_AT(15)
 
+// From here on the text is the source's. By C99 an `inline void k` that is neither static nor extern is no function that a linker finds, where the compiler
+// doesn't put it in place of its call; by the older rule of gcc, which clang has too, it is one. In C++ it is one, and `static inline` is the same by all rules.
+#if defined(__GNUC_STDC_INLINE__) && !defined(__cplusplus)
+#ifdef __clang__
+#pragma clang diagnostic push
+#pragma clang diagnostic ignored "-Wkeyword-macro"
+#endif
+#define inline __inline __attribute__((__gnu_inline__))
+#ifdef __clang__
+#pragma clang diagnostic pop
+#endif
+#endif
+
 #endif

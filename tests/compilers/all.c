@@ -1,4 +1,4 @@
-// What include/op2_seq.h has: accesses of each kind, direct and by maps, 16 arguments, variables, arrays and constants as arguments,
+// What include/op2_seq.h has: kernels of each kind, accesses of each kind, direct and by maps, 16 arguments, variables, arrays and constants as arguments,
 // names that differ from the texts, sets without elements, dats of several values, locals without initializers, and values that wrap.
 #include "op2_seq.h"
 extern int nnode;
@@ -34,12 +34,12 @@ static inline void spread(const int *xa, const int *xb, const int *xc, const int
   hist[1] += (sum & 255) | (w[0] % 5);
   *count += *bound;
 }
-void relax(int *x, int *y) {
+inline void relax(int *x, int *y) {
   x[1] ^= y[0];
   y[2] = x[0] - y[1];
   if (y[2] < 0) y[2] = -y[2]; else { x[2] += 5; x[2] <<= 1; }
 }
-void set(int *low, int *high, int *sum) {
+static void set(int *low, int *high, int *sum) {
   low[0] = 2147483647;
   high[0] = -2147483647 - 1;
   sum[0] = 0;
