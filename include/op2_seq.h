@@ -34,12 +34,14 @@ typedef struct op_seq_dat {
     int *values;
 } *op_dat;
 
-// An argument of a loop: element e has the cells from cells[dim * e] on, or with a map from cells[dim * targets[arity * e]] on.
+// An argument of a loop: element e has the cells from cells[dim * e] on, or where it is mapped from cells[dim * targets[arity * e]] on. It has no padding,
+// which gcc would clear with -ftrivial-auto-var-init=zero, and keep the whole in memory for that.
 typedef struct {
     int *cells;
     ptrdiff_t dim;
     const int *targets;
     ptrdiff_t arity;
+    ptrdiff_t mapped;
 } op_seq_arg;
 
 typedef enum { OP_READ, OP_WRITE, OP_RW, OP_INC, OP_MIN, OP_MAX } op_seq_access;
@@ -109,24 +111,34 @@ static inline void op_decl_const(int dim, const char *type, const int *values) {
     (void)values;
 }
 
-static inline op_seq_arg op_arg_dat(op_dat dat, int index, op_map map, int dim, const char *type, op_seq_access access) {
-    op_seq_arg arg = {dat->values, dim, map ? map->targets + index : 0, map ? map->dim : 0};
+// What of an argument is a number is known in the loop over the elements only where these are put in place before all else.
+#ifdef __GNUC__
+#define OP_SEQ_INLINE static inline __attribute__((__always_inline__))
+#else
+#define OP_SEQ_INLINE static inline
+#endif
+
+// The index of an argument without a map is -1. It is a number of the source, so that the compiler knows which arguments are mapped, and tests none for each
+// element.
+OP_SEQ_INLINE op_seq_arg op_arg_dat(op_dat dat, int index, op_map map, int dim, const char *type, op_seq_access access) {
+    const int mapped = index >= 0;
+    op_seq_arg arg = {dat->values, dim, mapped ? map->targets + index : 0, mapped ? map->dim : 0, mapped};
     (void)type;
     (void)access;
     return arg;
 }
 
 // A variable has one place for all elements. Only OP_READ arguments are constants, and no kernel stores through these.
-static inline op_seq_arg op_arg_gbl(const int *values, int dim, const char *type, op_seq_access access) {
-    op_seq_arg arg = {(int *)values, 0, 0, 0};
+OP_SEQ_INLINE op_seq_arg op_arg_gbl(const int *values, int dim, const char *type, op_seq_access access) {
+    op_seq_arg arg = {(int *)values, 0, 0, 0, 0};
     (void)dim;
     (void)type;
     (void)access;
     return arg;
 }
 
-static inline int *op_seq_cells(const op_seq_arg *arg, ptrdiff_t element) {
-    return arg->cells + arg->dim * (arg->targets ? arg->targets[arg->arity * element] : element);
+OP_SEQ_INLINE int *op_seq_cells(const op_seq_arg *arg, ptrdiff_t element) {
+    return arg->cells + arg->dim * (arg->mapped ? arg->targets[arg->arity * element] : element);
 }
 
 #define op_printf (void)OP_SEQ_LIBRARY(printf)
