@@ -121,13 +121,16 @@ static void read_externs(const char *text) {
 
 static int is_blank(char byte) { return byte == ' ' || byte == '\t' || byte == '\r' || byte == '\n'; }
 
-static struct word next_of_mesh(const char **at) {
+// The next token: of bytes above the blank, since the tokens of a mesh have no others.
+static struct word next_of_mesh(const char **text) {
+    const char *at = *text;
     struct word word;
-    while (is_blank(**at)) ++*at;
-    word.at = *at;
-    while (**at && !is_blank(**at)) ++*at;
-    word.size = (size_t)(*at - word.at);
+    while (is_blank(*at)) at++;
+    word.at = at;
+    while ((unsigned char)*at > ' ') at++;
+    word.size = (size_t)(at - word.at);
     if (!word.size) fail("no mesh text, or one without its end: ", mesh_name);
+    *text = at;
     return word;
 }
 
@@ -164,43 +167,64 @@ static void put_head(struct word name) {
     put(name.at, name.size);
 }
 
+// A value as it is written, behind a comma and a blank.
+struct value {
+    char bytes[24];
+    size_t size;
+};
+
 // Digits behind one `-` or not. The least int is the value of no literal.
-static void put_value(const char *at, const char *end) {
-    int minus = *at == '-';
-    struct word digits = {at + minus, 0};
-    if (digits.at == end || end[-1] < '0' || end[-1] > '9') fail("a value is none in ", mesh_name);
-    while (digits.at + 1 < end && *digits.at == '0') digits.at++;
-    digits.size = (size_t)(end - digits.at);
-    if (minus && is(digits, "2147483648")) put_text("-2147483647 - 1");
-    else if (minus) put("-", 1), put(digits.at, digits.size);
-    else put(digits.at, digits.size);
+static struct value read_value(const char *at, const char *end) {
+    struct value value = {", ", 2};
+    size_t digits;
+    if (*at == '-') value.bytes[value.size++] = *at++;
+    while (at + 1 < end && *at == '0') at++;
+    digits = (size_t)(end - at);
+    if (digits < 1 || digits > 10 || end[-1] < '0' || end[-1] > '9') fail("a value is none in ", mesh_name);
+    memcpy(value.bytes + value.size, at, digits);
+    value.size += digits;
+    if (!strcmp(value.bytes, ", -2147483648")) value.size = (size_t)sprintf(value.bytes, ", -2147483647 - 1");
+    return value;
 }
 
-static void put_int(struct word name, struct word value) {
+static void put_int(struct word name, struct word word) {
+    struct value value = read_value(word.at, word.at + word.size);
     put_head(name);
     put_text(" = ");
-    put_value(value.at, value.at + value.size);
+    put(value.bytes + 2, value.size - 2);
     put_text(";\n");
+}
+
+// The value behind k others of its array. Copying all bytes of it is faster than copying as many as count.
+static inline void put_behind(const struct value *value, long k) {
+    if (sizeof out - out_size < sizeof value->bytes) flush();
+    if (k == 0) {
+        put(value->bytes + 2, value->size - 2);
+        return;
+    }
+    memcpy(out + out_size, value->bytes, sizeof value->bytes);
+    if (k % 16 == 0) out[out_size + 1] = '\n';
+    out_size += value->size;
 }
 
 // The values behind the count, each alone or as a run N*V. C has no array without values: it gets one 0.
 static void put_array(struct word name, long count, const char **at) {
     int defined = is_defined(name);
-    long times, i, k = 0;
+    long times, k = 0, end;
     char size[32];
     if (defined) {
         put_head(name);
         put(size, (size_t)sprintf(size, "[%ld] = {\n%s", count ? count : 1, count ? "" : "0"));
     }
-    for (; k < count; k += times) {
+    while (k < count) {
         struct word word = next_of_mesh(at);
-        const char *star = memchr(word.at, '*', word.size), *value = star ? star + 1 : word.at;
+        const char *star = memchr(word.at, '*', word.size);
+        struct value value = read_value(star ? star + 1 : word.at, word.at + word.size);
         times = star ? strtol(word.at, 0, 10) : 1;
         if (times < 1 || times > count - k) fail("a value is none in ", mesh_name);
-        for (i = k; defined && i < k + times; i++) {
-            if (i) put(i % 16 ? ", " : ",\n", 2);
-            put_value(value, word.at + word.size);
-        }
+        end = k + times;
+        if (!defined) k = end;
+        for (; k < end; k++) put_behind(&value, k);
     }
     if (defined) put_text("\n};\n");
 }
