@@ -23,7 +23,7 @@ done
 
 # The source, its mesh and what is to be printed, by C compilers (docs/COMPILERS.md).
 compiled() {
-    "$here/../tools/mesh_c" "$2" >"$work/mesh.c"
+    "$here/../tools/mesh_c" "$2" "$1" >"$work/mesh.c"
     for compiler in $compilers; do
         if ! "$compiler" -std=c11 -w -O2 -fwrapv -include "$here/../include/op2_seq.h" "$1" "$work/mesh.c" -o "$work/program" ||
             ! "$work/program" | cmp -s - "$3"; then
