@@ -6,8 +6,8 @@
 
 #include <stddef.h>
 
-// Declared here and not by the headers of the C library, whose other names a source may use as its own. In C++ a declaration would have to say of
-// exceptions what these headers say, which differs; what the compiler knows as its own needs none.
+// Declared here and not by the headers of the C library, whose other names a source may use as its own. In C++ a declaration would have to
+// say of exceptions what these headers say, which differs; what the compiler knows as its own needs none.
 #ifdef __cplusplus
 #define OP_SEQ_LIBRARY(function) __builtin_##function
 #else
@@ -34,8 +34,8 @@ typedef struct op_seq_dat {
     int *values;
 } *op_dat;
 
-// An argument of a loop: element e has the cells from cells[dim * e] on, or where it is mapped from cells[dim * targets[arity * e]] on. It has no padding,
-// which gcc would clear with -ftrivial-auto-var-init=zero, and keep the whole in memory for that.
+// An argument of a loop: element e has the cells from cells[dim * e] on, or where it is mapped from cells[dim * targets[arity * e]] on.
+// It has no padding, which gcc would clear with -ftrivial-auto-var-init=zero, and keep the whole in memory for that.
 typedef struct {
     int *cells;
     ptrdiff_t dim;
@@ -118,8 +118,8 @@ static inline void op_decl_const(int dim, const char *type, const int *values) {
 #define OP_SEQ_INLINE static inline
 #endif
 
-// The index of an argument without a map is -1. It is a number of the source, so that the compiler knows which arguments are mapped, and tests none for each
-// element.
+// The index of an argument without a map is -1. It is a number of the source, so that the compiler knows which arguments are mapped, and
+// tests none for each element.
 OP_SEQ_INLINE op_seq_arg op_arg_dat(op_dat dat, int index, op_map map, int dim, const char *type, op_seq_access access) {
     const int mapped = index >= 0;
     op_seq_arg arg = {dat->values, dim, mapped ? map->targets + index : 0, mapped ? map->dim : 0, mapped};
@@ -184,8 +184,9 @@ static inline void op_seq_print_dat(op_dat dat, const char *name, const char *fi
 #define OP_SEQ_15 OP_SEQ_14, OP_SEQ_AT(14)
 #define OP_SEQ_16 OP_SEQ_15, OP_SEQ_AT(15)
 
-// From here on the text is the source's. By C99 an `inline void k` that is neither static nor extern is no function that a linker finds, where the compiler
-// doesn't put it in place of its call; by the older rule of gcc, which clang has too, it is one. In C++ it is one, and `static inline` is the same by all rules.
+// From here on the text is the source's. By C99 the definition of an `inline void k` that is neither static nor extern isn't one for the
+// linker, which looks for it where the compiler hasn't put it in place of its call. By the older rule of gcc, which clang has too, it is one.
+// In C++ it is one, and `static inline` is the same by all rules.
 #if defined(__GNUC_STDC_INLINE__) && !defined(__cplusplus)
 #ifdef __clang__
 #pragma clang diagnostic push

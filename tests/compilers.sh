@@ -1,8 +1,9 @@
 #!/bin/sh
-# Makes a program of each example, of tests/compilers/*.c and of the sample by the compilers that are there (gcc, clang; g++, clang++), without and with
-# optimization, by include/op2_seq.h, and compares what it prints with what op2 prints, byte for byte; no warning may name a line of the header. Shows then that
-# entries of a mesh give way to the source's own names where tools/mesh_c isn't told the source, how long that takes for 54 MB, and that a sanitizer names the
-# line at which a value wraps. Ends with the number of differences; with 70 where no C compiler is there.
+# Makes a program of each example, of tests/compilers/*.c and of the sample by the compilers that are there (gcc, clang; g++, clang++), without
+# and with optimization, by include/op2_seq.h, and compares what it prints with what op2 prints, byte for byte; no warning may name a line of
+# the header. Shows then that entries of a mesh give way to the source's own names where tools/mesh_c isn't told the source, that 54 MB take
+# it no more than 5 s, and that a sanitizer names the line at which a value wraps.
+# Ends with the number of differences; with 70 where no C compiler is there.
 # Usage: tests/compilers.sh [OP2]     (a program; else what OP2 names, else that of the repository)
 here=$(CDPATH= cd -- "$(dirname -- "$0")/.." && pwd) || exit 70
 op2=${1:-${OP2:-$here/op2}}
@@ -33,8 +34,8 @@ differs() {
     bad=$((bad + 1))
 }
 
-# A program by a compiler with a level and the language's flags, and what it prints. The sources of tests/compilers include the header themselves, by both of
-# its names.
+# A program by a compiler with a level and the language's flags, and what it prints. The sources of tests/compilers include the header
+# themselves, by both of its names.
 prints() {
     case $4 in
         */tests/compilers/*) header= ;;
@@ -151,7 +152,8 @@ for compiler in $compilers; do
     fi
 done
 
-# A mesh of 54 MB takes less than a second of a processor; some 10 s were needed once. Each line has three values, and each but the first a comma before it.
+# A mesh of 54 MB takes less than a second of a processor; some 10 s were needed once. Each line has three values, and each but the first has
+# a comma before it.
 {
     echo 'op2mesh 2 int other 5 ints large 10125000'
     yes '1234567 89 -512' | head -n 3375000

@@ -1,6 +1,7 @@
-// Writes the entries of a mesh text as C definitions, for a source that a C compiler makes a program of (docs/COMPILERS.md). tools/mesh_c compiles and calls it.
-// Usage: mesh_c MESH [SOURCE]     With SOURCE it writes only the entries that SOURCE declares extern. Without SOURCE it writes all, as weak symbols, which give
-// way to names of the source's own. The mesh text is one that op2 reads: ranges of numbers and names that stand twice are not judged here.
+// Writes the entries of a mesh text as C definitions, for a source that a C compiler makes a program of (docs/COMPILERS.md). tools/mesh_c
+// compiles and calls it. Usage: mesh_c MESH [SOURCE]
+// With SOURCE it writes only the entries that SOURCE declares extern. Without SOURCE it writes all, as weak symbols, which give way to names
+// of the source's own. The mesh text is one that op2 reads: ranges of numbers and names that stand twice are not judged here.
 #include <stdio.h>
 #include <stdlib.h>
 #include <string.h>
@@ -145,11 +146,12 @@ static long number(struct word word) {
 // ---- the definitions
 
 // Entries of these names are left out where no SOURCE says which are wanted: words of C, what op2_seq.h declares, and words of the language.
-static const char *const reserved[] = {"abort", "auto", "break", "case", "char", "const", "continue", "default", "do", "double", "else", "enum", "extern", "float",
-    "for", "free", "goto", "if", "inline", "int", "long", "main", "malloc", "printf", "register", "restrict", "return", "short", "signed", "sizeof", "static",
-    "struct", "switch", "typedef", "union", "unsigned", "void", "volatile", "while", "op_set", "op_map", "op_dat", "op_init", "op_exit", "op_decl_set",
-    "op_decl_map", "op_decl_dat", "op_decl_const", "op_par_loop", "op_arg_dat", "op_arg_gbl", "op_printf", "op_print_dat_to_txtfile", "OP_ID", "OP_READ",
-    "OP_WRITE", "OP_RW", "OP_INC", "OP_MIN", "OP_MAX", "MIN", "MAX", "ABS"};
+static const char *const reserved[] = {
+    "auto", "break", "case", "char", "const", "continue", "default", "do", "double", "else", "enum", "extern", "float", "for", "goto", "if",
+    "inline", "int", "long", "main", "register", "restrict", "return", "short", "signed", "sizeof", "static", "struct", "switch", "typedef",
+    "union", "unsigned", "void", "volatile", "while", "abort", "free", "malloc", "printf", "op_set", "op_map", "op_dat", "op_init", "op_exit",
+    "op_decl_set", "op_decl_map", "op_decl_dat", "op_decl_const", "op_par_loop", "op_arg_dat", "op_arg_gbl", "op_printf",
+    "op_print_dat_to_txtfile", "OP_ID", "OP_READ", "OP_WRITE", "OP_RW", "OP_INC", "OP_MIN", "OP_MAX", "MIN", "MAX", "ABS"};
 
 static int has_source;
 

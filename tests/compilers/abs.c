@@ -1,5 +1,5 @@
-// ABS in comparisons that a compiler may take for tests of a range, over the least number, of which ABS is the number itself; and MIN, MAX and ABS of comparisons
-// and in conditions, of which a compiler may warn.
+// ABS in comparisons that a compiler may take for tests of a range, over the least number, of which ABS is the number itself; and MIN, MAX and
+// ABS of comparisons and in conditions, of which a compiler may warn.
 #include "op_seq.h"
 extern int n;
 extern int x0[];
@@ -7,7 +7,8 @@ extern int zero[];
 void near(const int *x, int *r) {
   int y = x[0];
   r[0] = (ABS(x[0]) <= 2) + 2 * (ABS(x[0]) < 3) + 4 * (ABS(x[0]) > 2) + 8 * (ABS(x[0]) >= 3) + 16 * (ABS(y) == 2) + 32 * (ABS(y) != 2)
-    + 64 * (ABS(y) < 0) + 128 * (ABS(y) == y) + 256 * (ABS(y) >= 0) + 512 * (ABS(y - 1) <= 2) + 1024 * (ABS(y + 1) <= 2147483647) + 2048 * (ABS(-y) <= 2);
+    + 64 * (ABS(y) < 0) + 128 * (ABS(y) == y) + 256 * (ABS(y) >= 0) + 512 * (ABS(y - 1) <= 2) + 1024 * (ABS(y + 1) <= 2147483647)
+    + 2048 * (ABS(-y) <= 2);
   r[1] = ABS(x[0]) % 4 + ABS(x[0]) / 2;
   r[2] = ABS(x[0]) * ABS(x[0]);
   r[3] = ABS(ABS(x[0])) - ABS(-x[0]);

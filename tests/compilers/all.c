@@ -1,5 +1,6 @@
-// What include/op2_seq.h has: kernels of each kind, accesses of each kind, direct and by maps, 16 arguments, variables, arrays and constants as arguments,
-// names that differ from the texts, sets without elements, dats of several values, locals without initializers, and values that wrap.
+// What include/op2_seq.h has: kernels of each kind, accesses of each kind, direct and by maps, 16 arguments, variables, arrays and constants
+// as arguments, names that differ from the texts, sets without elements, dats of several values, locals without initializers, and values that
+// wrap.
 #include "op2_seq.h"
 extern int nnode;
 extern int ncell;
