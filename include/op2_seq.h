@@ -54,15 +54,6 @@ static struct op_seq_map op_seq_maps[64];
 static struct op_seq_dat op_seq_dats[256];
 static int op_seq_set_count, op_seq_map_count, op_seq_dat_count;
 
-// By `0 +` an argument that is a comparison, or a result that is a condition, gives no warning that would name a line of this file.
-#undef MIN
-#undef MAX
-#undef ABS
-#define MIN(a, b) (0 + (0 + (a) < 0 + (b) ? (a) : (b)))
-#define MAX(a, b) (0 + (0 + (a) > 0 + (b) ? (a) : (b)))
-// By `-(a)` gcc 12 would take `ABS(x) <= 2` for a test of a range, which is wrong for the least number, with -fwrapv too.
-#define ABS(a) ((int)(0 + (a) < 0 ? 0u - (unsigned)(a) : 0u + (unsigned)(a)))
-
 static inline void op_init(int argc, char **argv, int level) {
     (void)argc;
     (void)argv;
@@ -141,8 +132,6 @@ OP_SEQ_INLINE int *op_seq_cells(const op_seq_arg *arg, ptrdiff_t element) {
     return arg->cells + arg->dim * (arg->mapped ? arg->targets[arg->arity * element] : element);
 }
 
-#define op_printf (void)OP_SEQ_LIBRARY(printf)
-
 #define op_print_dat_to_txtfile(dat, file) op_seq_print_dat(dat, #dat, file)
 
 static inline void op_seq_print_dat(op_dat dat, const char *name, const char *file) {
@@ -184,18 +173,28 @@ static inline void op_seq_print_dat(op_dat dat, const char *name, const char *fi
 #define OP_SEQ_15 OP_SEQ_14, OP_SEQ_AT(14)
 #define OP_SEQ_16 OP_SEQ_15, OP_SEQ_AT(15)
 
-// From here on the text is the source's. By C99 the definition of an `inline void k` that is neither static nor extern isn't one for the
-// linker, which looks for it where the compiler hasn't put it in place of its call. By the older rule of gcc, which clang has too, it is one.
-// In C++ it is one, and `static inline` is the same by all rules.
+// What follows stands for words of the source. gcc would name lines of this file where it warns of such a word, as of one whose argument has no
+// value yet; it doesn't where they are a system's.
+#ifdef __GNUC__
+#pragma GCC system_header
+#endif
+
+#define op_printf (void)OP_SEQ_LIBRARY(printf)
+
+#undef MIN
+#undef MAX
+#undef ABS
+// By `0 +` no argument that is a comparison is compared itself, and no result is a condition, of which compilers warn.
+#define MIN(a, b) (0 + (0 + (a) < 0 + (b) ? (a) : (b)))
+#define MAX(a, b) (0 + (0 + (a) > 0 + (b) ? (a) : (b)))
+// By `-(a)` gcc 12 would take `ABS(x) <= 2` for a test of a range, which is wrong for the least number, with -fwrapv too.
+#define ABS(a) ((int)(0 + (a) < 0 ? 0u - (unsigned)(a) : 0u + (unsigned)(a)))
+
+// By C99 the definition of an `inline void k` that is neither static nor extern isn't one for the linker, which looks for it where the compiler
+// hasn't put it in place of its call. By the older rule of gcc, which clang has too, it is one. In C++ it is one, and `static inline` is the same
+// by all rules.
 #if defined(__GNUC_STDC_INLINE__) && !defined(__cplusplus)
-#ifdef __clang__
-#pragma clang diagnostic push
-#pragma clang diagnostic ignored "-Wkeyword-macro"
-#endif
 #define inline __inline __attribute__((__gnu_inline__))
-#ifdef __clang__
-#pragma clang diagnostic pop
-#endif
 #endif
 
 #endif
