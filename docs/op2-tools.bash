@@ -11,7 +11,7 @@ _op2_tools() {
         --metis) COMPREPLY=($(compgen -f -- "$word")); return ;;
         --set) return ;;
         --ranks) return ;;
-        --parts) return ;;
+        --parts) COMPREPLY=($(compgen -W 'block bisect: grow:' -- "$word")); compopt -o nospace; return ;;
         --partition) COMPREPLY=($(compgen -f -- "$word")); return ;;
         --renumber) return ;;
         --block) return ;;
