@@ -74,11 +74,13 @@ for out in "$here"/*.out; do
         bad=$((bad + 1))
     fi
 done
-# The steps of docs/TUTORIAL.md, on one rank and on four.
+# The steps of docs/TUTORIAL.md, and what has a mesh of its own, on one rank and on four.
 for out in "$here"/airfoil/*.out; do
-    compiled "${out%.out}.c" "$here/airfoil/airfoil.mesh" "$out"
+    mesh=${out%.out}.mesh
+    [ -f "$mesh" ] || mesh=$here/airfoil/airfoil.mesh
+    compiled "${out%.out}.c" "$mesh" "$out"
     for ranks in 1 4; do
-        if ! "$op2" run "${out%.out}.c" "$here/airfoil/airfoil.mesh" --ranks "$ranks" | cmp -s - "$out"; then
+        if ! "$op2" run "${out%.out}.c" "$mesh" --ranks "$ranks" | cmp -s - "$out"; then
             echo "differs: airfoil/$(basename "${out%.out}") on $ranks ranks" >&2
             bad=$((bad + 1))
         fi
@@ -102,6 +104,10 @@ for plan in heat.plan heat.colours; do
         bad=$((bad + 1))
     fi
 done
+if ! "$op2" run "$here/airfoil/naca.c" "$here/airfoil/naca.mesh" --ranks 2 --parts bisect:x --chain | cmp -s - "$here/airfoil/naca.out"; then
+    echo 'differs: airfoil/naca by chains on 2 ranks' >&2
+    bad=$((bad + 1))
+fi
 for ranks in 1 3; do
     if ! "$op2" run "$here/heat.c" "$here/heat.mesh" --ranks "$ranks" --chain | cmp -s - "$here/heat.out"; then
         echo "differs: heat by chains on $ranks ranks" >&2
@@ -124,6 +130,7 @@ if ! "$op2" translate "$here/heat.c" | cmp -s - "$here/heat.stubs"; then
     bad=$((bad + 1))
 fi
 made airfoil/airfoil.mesh "$here/airfoil/mesh.py"
+made airfoil/naca.mesh "$here/airfoil/naca_mesh.py"
 for name in jac jacobi paths; do
     made "$name.mesh" "$here/${name}_mesh.py"
 done

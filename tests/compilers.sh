@@ -127,8 +127,11 @@ for source in "$here"/examples/*.c "$here"/tests/compilers/*.c; do
     compare "$source" "$name.mesh" "$work/wanted" "$(basename "$name")"
 done
 
-for source in "$here"/examples/airfoil/*.c; do
-    compare "$source" "$here/examples/airfoil/airfoil.mesh" "${source%.c}.out" "airfoil/$(basename "${source%.c}")"
+for out in "$here"/examples/airfoil/*.out; do
+    name=${out%.out}
+    mesh=$name.mesh
+    [ -f "$mesh" ] || mesh=$here/examples/airfoil/airfoil.mesh
+    compare "$name.c" "$mesh" "$out" "airfoil/$(basename "$name")"
 done
 
 for side in 1 2 10; do
