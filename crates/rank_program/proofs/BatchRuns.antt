@@ -23,7 +23,6 @@ use Rattle.kernel_runs.specs.RowsRun.{RunsOne, RowsRun}
 use Rattle.rank_program.specs.declared.program.DistributedProgram.{DistributedProgram}
 use Rattle.rank_program.specs.declared.local_loops.LocalLoop.{LocalLoop}
 use Rattle.rank_program.specs.Batches.{Counts, reduces, GoesOn}
-use Rattle.rank_program.specs.Keeping.{KeepsIn}
 use Rattle.rank_program.specs.LocalArgs.{places_in}
 use Rattle.rank_program.specs.LocalLoops.{IsLocalLoop, VariablesStand}
 use Rattle.rank_program.specs.LocalRuns.{IsLent, StaysLent}
@@ -55,7 +54,7 @@ counted own xs counts ws ps = ⊎_elim
     cond_same false z = refl
 
 module _ (l : LocalLoop) (sound : Sound l.program.now) (is : IsLocalLoop l) (stand : StepsStand) (here : ArgsAreHere)
-    (windows : ElementWindowsStand) (frames : FramesAreReached) (have : ArgsHaveCells) (leave : KeepsIn l.program.now l.item) (finishes : FinishesHere)
+    (windows : ElementWindowsStand) (frames : FramesAreReached) (have : ArgsHaveCells) (finishes : FinishesHere)
     (cells : List Place) (at : VariablesStand l cells) where
   abbrev c : DistributedProgram
   c = l.program.now
@@ -107,7 +106,7 @@ module _ (l : LocalLoop) (sound : Sound l.program.now) (is : IsLocalLoop l) (sta
     row_runs step counts kept =
         subst (λ m. RunsAt (setup_in c) (layout_in c) (tables_in c) l.item l.rank l.constants.now l.variables.now x (share old ps kept) (share m qs kept)) new_is
         (subst (λ m. RunsAt (setup_in c) (layout_in c) (tables_in c) l.item l.rank l.constants.now l.variables.now x (share m ps kept) (share (take w row.after) qs kept)) front
-        (element_runs l sound is stand x step here cells (places_in x l.args.now cells) at refl windows frames have leave
+        (element_runs l sound is stand x step here cells (places_in x l.args.now cells) at refl windows frames have
         (old ++ behind) (old ++ behind) row.after whole refl
         (take_all (w + length l.scalars.now) (old ++ behind) (let n = whole in omega (arith, n)) ∙ ap (λ m. m ++ behind) (sym front))
         None

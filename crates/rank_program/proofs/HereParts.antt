@@ -39,7 +39,6 @@ use Rattle.rank_state.proofs.Public.{windows_counted}
 use Rattle.kernel_runs.specs.Saving.{place_cells}
 use Rattle.kernel_runs.specs.InPlace.{NameTheSame}
 use Rattle.kernel_runs.specs.Here.{IsHere, core_on_gathered}
-use Rattle.rank_program.specs.Keeping.{KeepsIn}
 use Rattle.rank_program.specs.declared.program.DistributedProgram.{DistributedProgram}
 use Rattle.rank_layout.specs.DatWindows.{spans_after, ArgHere}
 use Rattle.rank_program.specs.Here.{arg_stands, arg_place, behind, scalars_in}
@@ -258,7 +257,7 @@ module _ (c : DistributedProgram) (sound : Sound c) (stand : StepsStand) (k r x 
               law (map (arg_width b) site.args) f (map target_of places) consts judged
               (subst (λ z. HaveCounts (map (arg_width b) site.args) (map target_of z)) (sym are) (have_counts b place site.args dims))
 
-          module _ (frames : FramesAreReached) (have : ArgsHaveCells) (leave : KeepsIn c k) (spans : List Span) (are : Windows spans) where
+          module _ (frames : FramesAreReached) (have : ArgsHaveCells) (spans : List Span) (are : Windows spans) where
             on : OnWindows (modes_of b site) (cell_of b site e) (frame_cells b site.args e) (frame_windows b site.args e)
             on = frames b site e
 
@@ -307,7 +306,7 @@ module _ (c : DistributedProgram) (sound : Sound c) (stand : StepsStand) (k r x 
                   within = all_within;
                   apart = spans_apart b site e (width + length vs) cell one on (all_spans spans) gathered_cells all_within all_marked span dims inside has;
                   same = same;
-                  leaves = leave f begun.loop kernel consts (all_spans spans) (frame_windows b site.args e) (λ a i lt. (same.in_windows a, same.inside a i lt))
+                  leaves = sound.keeps k f begun.loop kernel consts (all_spans spans) (frame_windows b site.args e) (λ a i lt. (same.in_windows a, same.inside a i lt))
                       (unwritten_read b site e (width + length vs) cell one on (all_spans spans) gathered_cells all_within all_marked span dims inside has);
                   marked = written_marked b site e (width + length vs) cell one on (all_spans spans) gathered_cells all_within all_marked span dims inside has;
                 })))

@@ -1,6 +1,8 @@
 mod ItemParts
 mod KernelRun
 mod ProgramRun
+mod ProgramParts
+mod ConstantsStay
 mod BegunParts
 mod CopiesStand
 mod Runnables
@@ -8,6 +10,7 @@ mod Tails
 mod Buffer
 mod HereStands
 mod Behind
+mod Mapped
 mod ElementScalars
 mod LocalArgs
 mod HereParts

@@ -31,7 +31,6 @@ use Rattle.rank_program.specs.declared.local_loops.LocalLoop.{LocalLoop}
 use Rattle.rank_program.specs.Here.{arg_place, scalars_in, merged_after}
 use Rattle.rank_program.specs.LocalArgs.{InBuffer, places_in}
 use Rattle.rank_program.specs.LocalLoops.{IsLocalLoop, VariablesStand}
-use Rattle.rank_program.specs.Keeping.{KeepsIn}
 use Rattle.rank_program.specs.Sound.{Sound, program_in, setup_in, layout_in, tables_in}
 use Rattle.rank_layout.specs.StepLaws.{StepsStand}
 use Rattle.rank_layout.specs.WindowLaws.{ArgsAreHere, ArgsHaveCells, ElementWindowsStand}
@@ -94,7 +93,7 @@ module _ (l : LocalLoop) (sound : Sound l.program.now) (is : IsLocalLoop l) (sta
       inside = places_fit c sound stand l.item l.rank x step m is.part here at.at at.behind n memory_long places placed
 
     -- its run on these cells and the first values of the variables
-    module _ (windows : ElementWindowsStand) (frames : FramesAreReached) (have : ArgsHaveCells) (leave : KeepsIn c l.item)
+    module _ (windows : ElementWindowsStand) (frames : FramesAreReached) (have : ArgsHaveCells)
         (old filled new : List ℤ) (long : length old ≡ w + length l.scalars.now) (same : length filled ≡ length old)
         (fill : take (w + length l.scalars.now) filled ≡ take w old ++ firsts l.variables.now l.scalars.now)
         (fault : Option KernelFault)
@@ -120,7 +119,7 @@ module _ (l : LocalLoop) (sound : Sound l.program.now) (is : IsLocalLoop l) (sta
 
       stands : IsHere f l.constants.now (length filled) places l.marks.now every ts
       stands =
-          is_here c sound stand l.item l.rank x step m is.part here at.at at.behind frames have leave spans are f is.kernel l.constants.now (length filled)
+          is_here c sound stand l.item l.rank x step m is.part here at.at at.behind frames have spans are f is.kernel l.constants.now (length filled)
           (memory_long (length filled) (same ∙ long)) places placed l.marks.now is.marks
 
       filled_is : filled ≡ take w old ++ firsts l.variables.now (scalars_in c l.item)

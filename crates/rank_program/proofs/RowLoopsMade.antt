@@ -337,10 +337,10 @@ module _ (l : LocalLoop) (sound : Sound l.program.now) (is : IsLocalLoop l) (sta
             (slice_index batch i) (slice_index batch r) (begin i li) (begin r lr) cell).dat))
             (cases_eq o.on.dat q.on.dat)
 
-        pub in_rows : c.obeying ≡ true → RunsInRows row m.cells modes standing batch rows
-        in_rows obeying = record {
+        pub in_rows : RunsInRows row m.cells modes standing batch rows
+        in_rows = record {
           obeys = subst (λ z. KernelObeys z.kernel.now modes) (sym codes)
-              (sound.obeying obeying (loop_of (item_at b l.item)) l.code.now.kernel.now (begun first step).loop is.kernel);
+              (sound.obey (loop_of (item_at b l.item)) l.code.now.kernel.now (begun first step).loop is.kernel);
           frame_counts = λ a. ap (λ (t : Target). t.count) (target_is row.places.now a) ∙ frame_count a;
           counts = λ r a lt. ap (λ (t : Target). t.count) (target_is (standing (slice_index batch r)) a) ∙ memory_count (slice_index batch r) a;
           stands = λ r a i lr li. component (slice_index batch r) a i (begin r lr) li;
@@ -359,9 +359,9 @@ module _ (l : LocalLoop) (sound : Sound l.program.now) (is : IsLocalLoop l) (sta
         }
 
       -- so it is a loop that runs in rows
-      pub made : c.obeying ≡ true → row.constants.now ≡ l.constants.now → row.variables.now ≡ l.variables.now → length row.ways.now ≤ most_ways → width row + l.code.now.slots ≤ most_columns
+      pub made : row.constants.now ≡ l.constants.now → row.variables.now ≡ l.variables.now → length row.ways.now ≤ most_ways → width row + l.code.now.slots ≤ most_columns
           → IsRowLoop l row
-      made obeying constants variables few_ways few_columns = record {
+      made constants variables few_ways few_columns = record {
         code = codes;
         constants = constants;
         variables = variables;
@@ -374,5 +374,5 @@ module _ (l : LocalLoop) (sound : Sound l.program.now) (is : IsLocalLoop l) (sta
         leads = leads_from args locals (BeginsAt l) m.cells base_of dim_of reach row numbers places are_on tables;
         stand = cells;
         are = at;
-        in_rows = λ batch rows begin. in_rows batch rows begin obeying;
+        in_rows = λ batch rows begin. in_rows batch rows begin;
       }

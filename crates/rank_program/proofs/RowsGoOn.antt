@@ -22,11 +22,12 @@ use Rattle.rank_layout.specs.WindowLaws.{ArgsAreHere, ArgsHaveCells, ElementWind
 use Rattle.rank_program.specs.declared.local_loops.LocalLoop.{LocalLoop}
 use Rattle.rank_program.specs.Batches.{BeginsAt, Counts, GoesOn, IsRowLoop}
 use Rattle.rank_program.specs.LocalArgs.{places_in}
-use Rattle.rank_program.specs.LocalRuns.{AllBeginHere, CanRunHere}
+use Rattle.rank_program.specs.LocalLoops.{IsLocalLoop}
+use Rattle.rank_program.specs.LocalRuns.{AllBeginHere}
 use Rattle.rank_program.specs.Sound.{program_in, setup_in, layout_in}
 use Rattle.rank_program.proofs.BatchRuns.{rows_reach}
 
-module _ (l : LocalLoop) (y : RowLoop) (can : CanRunHere l) (row : IsRowLoop l y) (steps : AllBeginHere l)
+module _ (l : LocalLoop) (y : RowLoop) (is : IsLocalLoop l) (row : IsRowLoop l y) (steps : AllBeginHere l)
     (stand : StepsStand) (here : ArgsAreHere) (have : ArgsHaveCells) (windows : ElementWindowsStand) (frames : FramesAreReached) (finishes : FinishesHere)
     (memory : List ℤ) (wide : l.part.now.cells ≤ length memory) (at count n : ℕ) (few : n ≤ count) (fits : at + count ≤ length l.places.now)
     (batch : List ℕ) (are : (j : ℕ) → j < count → slice_index batch j ≡ get_or l.places.now (at + j) 0) where
@@ -71,6 +72,6 @@ module _ (l : LocalLoop) (y : RowLoop) (can : CanRunHere l) (row : IsRowLoop l y
       sym (ap (λ k. take k (new ++ drop w memory)) (sym (same ∙ long)) ∙ take-append_seam new (drop w memory)) in
       subst (λ m. GoesOn l at (at + n) (record { cells = old; partials = ps; fault = kept }) (record { cells = m; partials = qs; fault = kept })) front
       (λ start h.
-      rows_reach l can.sound can.is stand here windows frames have can.keeps finishes row.stand row.are
+      rows_reach l is.sound is stand here windows frames have finishes row.stand row.are
       l.places.now steps start at old ps long kept (λ j. slice_index batch j)
       n (omega (arith, few, fits)) (λ j lt. are j (omega (arith, lt, few))) (λ j lt. counts j (omega (arith, lt, few))) new qs coded h)

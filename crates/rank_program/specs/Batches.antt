@@ -17,8 +17,8 @@ use Rattle.rank_program.specs.Rooms.{most_ways, most_columns}
 use Rattle.rank_program.specs.declared.local_loops.LocalLoop.{LocalLoop}
 use Rattle.rank_program.specs.declared.row_loops.LoopInRows.{LoopInRows}
 use Rattle.rank_program.specs.LocalArgs.{places_in}
-use Rattle.rank_program.specs.LocalLoops.{VariablesStand}
-use Rattle.rank_program.specs.LocalRuns.{CanRunHere, AllBeginHere}
+use Rattle.rank_program.specs.LocalLoops.{IsLocalLoop, VariablesStand}
+use Rattle.rank_program.specs.LocalRuns.{AllBeginHere}
 use Rattle.rank_program.specs.Sound.{program_in, setup_in, layout_in, tables_in}
 
 -- the loop reduces into the scalar
@@ -70,6 +70,6 @@ module _ (l : LocalLoop) where
 
 -- its elements can run on the rank's own cells, and in rows
 pub record CanRunInRows (y : LoopInRows) : Type 0 where
-  pub can : CanRunHere y.local.now
+  pub is : IsLocalLoop y.local.now
   pub rows : IsRowLoop y.local.now y.rows
   pub steps : AllBeginHere y.local.now

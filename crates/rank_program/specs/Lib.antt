@@ -14,3 +14,4 @@ pub mod FromNone
 pub mod Jobs
 pub mod Batches
 pub mod LocalRuns
+pub mod Constants

@@ -19,7 +19,7 @@ use Rattle.rank_program.specs.declared.local_loops.LocalLoop.{LocalLoop}
 use Rattle.rank_program.specs.declared.rank_elements.RankElements.{RankElements}
 use Rattle.rank_program.specs.Here.{scalars_in}
 use Rattle.rank_program.specs.LocalArgs.{AreArgs, places_in}
-use Rattle.rank_program.specs.Sound.{program_in, layout_in, tables_in}
+use Rattle.rank_program.specs.Sound.{Sound, program_in, layout_in, tables_in}
 
 -- the cells of an argument on a variable stand at the place, among these behind so many
 abbrev pub StandsBehind : BoundValue → (width : ℕ) → List Cell → Place → Arg → Type 0
@@ -49,6 +49,7 @@ module _ (l : LocalLoop) where
 
   -- what was looked up is what the run of an element takes
   pub record IsLocalLoop : Type 0 where
+    pub sound : Sound l.program.now
     pub part : l.part.now ≡ slice_index_or l.program.now.meshes.now l.rank l.part.now
     pub width : l.part.now.cells ≡ (layout_in l.program.now).width l.rank
     pub code : IsCode l.code.now

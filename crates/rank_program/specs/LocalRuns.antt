@@ -6,10 +6,9 @@ use Rattle.rank_program.specs.declared.local_loops.LocalLoop.{LocalLoop}
 use Rattle.rank_program.specs.declared.room.KernelRoom.{KernelRoom}
 use Rattle.rank_program.specs.declared.share.RankShare.{RankShare}
 use Rattle.rank_program.specs.AloneRuns.{AllBegin, Share}
-use Rattle.rank_program.specs.Keeping.{KeepsIn}
-use Rattle.rank_program.specs.LocalLoops.{IsLocalLoop, VariablesStand}
+use Rattle.rank_program.specs.LocalLoops.{VariablesStand}
 use Rattle.rank_program.specs.Rooms.{HasKernelRoom}
-use Rattle.rank_program.specs.Sound.{Sound, setup_in, layout_in, tables_in}
+use Rattle.rank_program.specs.Sound.{setup_in, layout_in, tables_in}
 
 -- it is the same loan: of the same memory and partials, as long as they were
 pub record StaysLent (old new : RankShare) : Type 0 where
@@ -19,12 +18,6 @@ pub record StaysLent (old new : RankShare) : Type 0 where
   pub slots : length new.partials.now ≡ length old.partials.now
 
 module _ (l : LocalLoop) where
-  -- its elements can run on the rank's own cells
-  pub record CanRunHere : Type 0 where
-    pub sound : Sound l.program.now
-    pub is : IsLocalLoop l
-    pub keeps : KeepsIn l.program.now l.item
-
   -- the elements at its places begin on the rank
   abbrev pub AllBeginHere : Type 0
   AllBeginHere = AllBegin (setup_in l.program.now) (layout_in l.program.now) (tables_in l.program.now) l.item l.rank l.places.now

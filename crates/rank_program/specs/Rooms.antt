@@ -20,7 +20,7 @@ most_columns = 128
 
 -- for kernels with locals of so many cells
 pub record HasKernelRoom (locals : ℕ) (room : KernelRoom) : Type 0 where
-  pub places_fit : most_ways ≤ vec_capacity room.places
+  pub places_fit : most_ways ≤ room.places.capacity
   pub locals_fit : locals ≤ length room.locals.items
   pub saved_fits : most_saved ≤ length room.saved.items
   pub rows_fit : HasRowRoom most_ways most_columns most_columns room.rows

@@ -6,6 +6,7 @@ use Rattle.mesh_decl.specs.Mesh.{set_size}
 use Rattle.mesh_decl.specs.declared.owners.Perms.{Perms}
 use Rattle.local_mesh.specs.declared.halo_lists.types.Halos.{Halos}
 use Rattle.schedule_steps.specs.Outline.{Outline}
+use Rattle.schedule_steps.specs.declared.step.Step.{Step}
 use Rattle.schedule_steps.specs.declared.step.Step.TheVariants.{Begin}
 use Rattle.schedule_steps.specs.Steps.{IsStep}
 use Rattle.schedule_model.specs.Program.{is_loop}
@@ -33,6 +34,7 @@ use Rattle.rank_program.specs.declared.tasks.Task.{Task}
 use Rattle.rank_program.specs.declared.tasks.Targets.{Targets}
 use Rattle.rank_layout.specs.Made.{AreMade}
 use Rattle.rank_program.specs.Targets.{AllTargets}
+use Rattle.rank_program.specs.Keeping.{KeepsIn}
 use Rattle.rank_program.specs.declared.program.DistributedProgram.{DistributedProgram}
 
 module _ (c : DistributedProgram) where
@@ -57,6 +59,10 @@ module _ (c : DistributedProgram) where
   abbrev pub core_in : ℕ → ℕ → List ℤ → List ℤ → Core KernelFault
   core_in = layout_in.core
 
+  -- the step is one of the program
+  abbrev pub HasStep : Step → Type 0
+  HasStep s = IsStep (by_place setup_in layout_in) s
+
   -- the targets of tasks of the item's loop
   abbrev pub targeted_in : ℕ → List Task → List Targets → Type 0
   targeted_in k = AllTargets program_in (site_of program_in k).args
@@ -69,7 +75,8 @@ module _ (c : DistributedProgram) where
     pub lists : HasLists program_in c.owners.now numbers c.meshes.now plan_in halos c.lists.now
     pub made : AreMade program_in c.owners.now plan_in c.lists.now c.tables
     pub codes : AreCodesOf program_in.kernels c.codes.now
-    pub obeying : c.obeying ≡ true → AllObey program_in
+    pub obey : AllObey program_in
+    pub keeps : (k : ℕ) → KeepsIn program_in k
     pub room : HaveRoom c.codes.now c.locals
     pub layout : IsLayout setup_in layout_in
     pub indexed : Indexed setup_in layout_in tables_in
@@ -79,7 +86,6 @@ module _ (c : DistributedProgram) where
 
   -- the item is a loop with this element, with so many constants and cells of its frame
   pub record Takes (k e cs ws : ℕ) : Type 0 where
-    pub sound : Sound
     pub is_loop : is_loop (kind_of (item_at program_in k)) ≡ true
     pub element : e < set_size program_in.mesh (site_of program_in k).set
     pub constants : cs ≡ length (constants program_in)

@@ -5,8 +5,7 @@ ghost use Rattle.rank_state.specs.Spare.{HasSpare};
 ghost use Rattle.rank_state.specs.Stops.{stop_in};
 ghost use Rattle.rank_program.specs.Rooms.{HasRoomOf};
 ghost use Rattle.rank_program.specs.AloneRuns.{AllBegin, Reaches};
-ghost use Rattle.rank_program.specs.Keeping.{KeepsIn};
-ghost use Rattle.rank_program.specs.Sound.{Sound, setup_in, layout_in, tables_in};
+ghost use Rattle.rank_program.specs.Sound.{setup_in, layout_in, tables_in};
 
 use crate::here::run_here;
 use crate::local_loops::local_loop;
@@ -43,8 +42,6 @@ pub fn run_places<R: Threads + Sync, G: Gate + Sync>(
     fault: Option<Stop>,
     room: &mut Room,
 ) -> Option<Stop>
-    requires sound { Sound elements.now.program.now }
-    requires keeps { KeepsIn elements.now.program.now elements.now.item }
     requires some { 0 < length elements.now.places.now }
     requires steps { AllBegin (setup_in elements.now.program.now) (layout_in elements.now.program.now) (tables_in elements.now.program.now)
         elements.now.item elements.now.rank elements.now.places.now }

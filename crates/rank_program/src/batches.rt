@@ -4,7 +4,8 @@ ghost use Rattle.std.specs.Prelude.{◌≡◌, ◌<◌, ◌≤◌, ◌+◌, leng
 ghost use Rattle.rank_program.specs.Rooms.{most_ways, most_columns};
 ghost use Rattle.kernel_runs.specs.RowLoops.{HasRowRoom};
 ghost use Rattle.rank_program.specs.Batches.{CanRunInRows, GoesOn};
-ghost use Rattle.rank_program.specs.LocalRuns.{CanRunHere, AllBeginHere, HasLoopRoom, IsLent, StaysLent, share_in};
+ghost use Rattle.rank_program.specs.LocalLoops.{IsLocalLoop};
+ghost use Rattle.rank_program.specs.LocalRuns.{AllBeginHere, HasLoopRoom, IsLent, StaysLent, share_in};
 
 use crate::counts::all_count;
 use crate::here::run_alone;
@@ -120,7 +121,7 @@ pub fn run_batches<R: Threads + Sync, G: Gate + Sync>(
     share: &mut RankShare<'_>,
     room: &mut KernelRoom,
 ) -> usize
-    requires can { CanRunHere local.now }
+    requires is { IsLocalLoop local.now }
     requires steps { AllBeginHere local.now }
     requires lent { IsLent local.now share.old }
     requires room { HasLoopRoom local.now room.old }
@@ -138,7 +139,7 @@ pub fn run_batches<R: Threads + Sync, G: Gate + Sync>(
     let mut pairs = [(0, 0); MOST_PAIRS];
     match row_loop(
         local,
-        &room.places,
+        room.places.as_slice(),
         &mut ways,
         &mut columns,
         &mut frame,

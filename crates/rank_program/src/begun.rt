@@ -2,21 +2,20 @@
 
 ghost use Rattle.std.specs.Prelude.{◌≡◌, ℕ, ◌≤◌, ◌==◌, [], nat_lt, vec_capacity};
 ghost use Rattle.schedule_steps.specs.declared.step.Step.TheVariants.{Begin};
-ghost use Rattle.schedule_steps.specs.Steps.{IsStep};
-ghost use Rattle.schedule_model.specs.Layout.{by_place};
 ghost use Rattle.rank_state.specs.Shows.{AreWindows};
-ghost use Rattle.rank_program.specs.Sound.{Sound, setup_in, layout_in, tables_in};
+ghost use Rattle.rank_program.specs.Sound.{Sound, setup_in, layout_in, tables_in, HasStep};
 
 use crate::elements::{is_own, original_of, own_count};
 use crate::items::{loop_of, site_of};
 use crate::program::DistributedProgram;
+use crate::runnable::Runnable;
 use rank_layout::{element_windows_stand, push_local_windows, row_of, steps_stand, windows_stand};
 use rank_state::{Scalar, Span};
 
-/// The element at a place of a rank, in the set of the item's loop, by its original number.
-pub fn original_at(program: &DistributedProgram<'_>, item: u32, rank: u32, place: u32) -> u32
+// The element at a place of a rank, in the set of the item's loop, by its original number.
+pub(crate) fn original_in(program: &DistributedProgram<'_>, item: u32, rank: u32, place: u32) -> u32
     requires sound { Sound program.now }
-    requires step { IsStep (by_place (setup_in program.now) (layout_in program.now)) (Begin item rank place) }
+    requires step { HasStep program.now (Begin item rank place) }
     ensures { result ≡ (layout_in program.now).original item rank place }
 {
     steps_stand();
@@ -24,10 +23,18 @@ pub fn original_at(program: &DistributedProgram<'_>, item: u32, rank: u32, place
     original_of(program.meshes, rank, site.set, place)
 }
 
-/// Whether the rank owns the element at a place.
-pub fn owns_at(program: &DistributedProgram<'_>, item: u32, rank: u32, place: u32) -> bool
+/// The element at a place of a rank, in the set of the item's loop, by its original number.
+pub fn original_at(program: &Runnable<'_>, item: u32, rank: u32, place: u32) -> u32
+    requires { HasStep program.now (Begin item rank place) }
+    ensures { result ≡ (layout_in program.now).original item rank place }
+{
+    original_in(program.parts(), item, rank, place)
+}
+
+// Whether the rank owns the element at a place.
+pub(crate) fn owns_in(program: &DistributedProgram<'_>, item: u32, rank: u32, place: u32) -> bool
     requires sound { Sound program.now }
-    requires step { IsStep (by_place (setup_in program.now) (layout_in program.now)) (Begin item rank place) }
+    requires step { HasStep program.now (Begin item rank place) }
     ensures { result
         ≡ ((setup_in program.now).owner ((setup_in program.now).program.set item) ((layout_in program.now).original item rank place)
         == rank) }
@@ -38,12 +45,22 @@ pub fn owns_at(program: &DistributedProgram<'_>, item: u32, rank: u32, place: u3
     is_own(program.meshes, rank, site.set, place)
 }
 
-/// How many elements of the set of the item's loop a rank owns: an element is its own where its place is below that.
-/// The rank has an element of the loop.
-pub fn own_places(program: &DistributedProgram<'_>, item: u32, rank: u32) -> u32
+/// Whether the rank owns the element at a place.
+pub fn owns_at(program: &Runnable<'_>, item: u32, rank: u32, place: u32) -> bool
+    requires { HasStep program.now (Begin item rank place) }
+    ensures { result
+        ≡ ((setup_in program.now).owner ((setup_in program.now).program.set item) ((layout_in program.now).original item rank place)
+        == rank) }
+{
+    owns_in(program.parts(), item, rank, place)
+}
+
+// How many elements of the set of the item's loop a rank owns: an element is its own where its place is below that.
+// The rank has an element of the loop.
+pub(crate) fn own_places(program: &DistributedProgram<'_>, item: u32, rank: u32) -> u32
     requires sound { Sound program.now }
-    requires step { (place : ℕ) × IsStep (by_place (setup_in program.now) (layout_in program.now)) (Begin item rank place) }
-    ensures { (x : ℕ) → IsStep (by_place (setup_in program.now) (layout_in program.now)) (Begin item rank x)
+    requires step { (place : ℕ) × HasStep program.now (Begin item rank place) }
+    ensures { (x : ℕ) → HasStep program.now (Begin item rank x)
         → ((setup_in program.now).owner ((setup_in program.now).program.set item) ((layout_in program.now).original item rank x)
         == rank) ≡ nat_lt x result }
 {
@@ -56,20 +73,20 @@ pub fn own_places(program: &DistributedProgram<'_>, item: u32, rank: u32) -> u32
 /// Puts down where the windows of a place's element stand in its rank's buffer, and gives the scalars behind them.
 /// `spans` is lent empty, with room for as many as an element has at most. Takes no memory.
 pub fn push_element<'p>(
-    program: &'p DistributedProgram<'_>,
+    program: &'p Runnable<'_>,
     item: u32,
     rank: u32,
     place: u32,
     spans: &mut Vec<Span>,
 ) -> &'p [Scalar]
-    requires sound { Sound program.now }
-    requires step { IsStep (by_place (setup_in program.now) (layout_in program.now)) (Begin item rank place) }
+    requires step { HasStep program.now (Begin item rank place) }
     requires empty { spans.old.items ≡ [] }
     requires room { program.now.tables.spans ≤ vec_capacity spans.old }
     ensures are { AreWindows (setup_in program.now) (layout_in program.now)
         (tables_in program.now) item rank place spans.new.items result.now }
     ensures room { vec_capacity spans.new ≡ vec_capacity spans.old }
 {
+    let program = program.parts();
     steps_stand();
     windows_stand();
     element_windows_stand();

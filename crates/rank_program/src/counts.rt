@@ -2,8 +2,9 @@
 
 ghost use Rattle.std.specs.Prelude.{◌≡◌, ◌<◌, ◌≤◌, ◌+◌, ◌==◌, ℕ, true, length, get_or};
 ghost use Rattle.rank_program.specs.Batches.{Counts, reduces};
+ghost use Rattle.rank_program.specs.LocalLoops.{IsLocalLoop};
 ghost use Rattle.rank_program.specs.LocalRuns.{AllBeginHere};
-ghost use Rattle.rank_program.specs.Sound.{Sound, setup_in, layout_in};
+ghost use Rattle.rank_program.specs.Sound.{setup_in, layout_in};
 
 use crate::begun::own_places;
 use crate::local_loops::LocalLoop;
@@ -37,7 +38,7 @@ fn all_below(places: &[u32], at: usize, count: usize, end: u32) -> bool
 /// Whether what the elements of a loop at so many places from `at` on leave of its scalars counts: it reduces into
 /// none, or its rank owns the elements.
 pub fn all_count(local: &LocalLoop<'_>, at: usize, count: usize) -> bool
-    requires sound { Sound local.now.program.now }
+    requires is { IsLocalLoop local.now }
     requires steps { AllBeginHere local.now }
     requires some { 0 < count }
     requires fits { at + count ≤ length local.now.places.now }

@@ -1,9 +1,9 @@
 // The elements at the places of ranks.
 
 ghost use Rattle.std.specs.Prelude.{◌≡◌, ◌<◌, length, nat_lt};
-ghost use Rattle.local_mesh.specs.Lists as the;
 ghost use Rattle.local_mesh.specs.Numbers.{own_in};
 ghost use Rattle.bound_plan.specs.Places.{original_at};
+ghost use Rattle.local_mesh.specs.Lists as the;
 
 use local_mesh::{LocalSet, RankMesh};
 

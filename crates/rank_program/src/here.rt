@@ -1,88 +1,94 @@
 // Runs of kernels on a rank's own cells, with the cells of a loop's variables behind them.
 
-ghost use Rattle.std.specs.Prelude.{◌≡◌, ◌<◌, ◌≤◌, ◌+◌, ◌-◌, ◌^◌, ◌==◌, [], All, length, map, take, vec_capacity};
-ghost use Rattle.schedule_steps.specs.declared.step.Step.TheVariants.{Begin};
-ghost use Rattle.schedule_steps.specs.Steps.{IsStep};
-ghost use Rattle.schedule_model.specs.Layout.{by_place};
+ghost use Rattle.std.specs.Prelude.{◌≡◌, ◌<◌, ◌≤◌, ◌+◌, ◌-◌, ◌^◌, ◌==◌, [], All, length, map, take};
 ghost use Rattle.rank_state.specs.Windows.{Merges};
 ghost use Rattle.rank_state.specs.Machine.{noted};
 ghost use Rattle.rank_state.specs.Stops.{stop_in};
-ghost use Rattle.rank_program.specs.Rooms.{HasKernelRoom};
+ghost use Rattle.rank_program.specs.Rooms.{HasKernelRoom, most_ways};
 ghost use Rattle.rank_program.specs.AloneRuns.{Reaches, RunsAt};
 ghost use Rattle.rank_program.specs.Batches.{BeginsAt, GoesOn};
 ghost use Rattle.rank_program.specs.Here.{moved, merged_after};
 ghost use Rattle.rank_program.specs.LocalLoops.{IsLocalLoop, VariablesStand};
-ghost use Rattle.rank_program.specs.LocalRuns.{CanRunHere, AllBeginHere, HasLoopRoom, IsLent, StaysLent, share_in};
-ghost use Rattle.rank_program.specs.Sound.{Sound, setup_in, layout_in, tables_in};
+ghost use Rattle.rank_program.specs.LocalRuns.{AllBeginHere, HasLoopRoom, IsLent, StaysLent, share_in};
+ghost use Rattle.rank_program.specs.Sound.{setup_in, layout_in, tables_in};
 
 use crate::batches::run_batches;
-use crate::begun::{original_at, owns_at};
+use crate::begun::{original_in, owns_in};
 use crate::items::site_of;
 use crate::local_args::put_places;
 use crate::local_loops::LocalLoop;
-use crate::room::KernelRoom;
+use crate::room::{KernelRoom, MOST_WAYS};
 use crate::share::RankShare;
 use kernel_model::types::KernelFault;
 use kernel_model::types::views::Place;
 use kernel_runs::in_place::KernelInPlace;
 use kernel_runs::worker_batches::Workers;
 use par_exec::{Gate, ItemGate};
-use rank_layout::{MAX_ARGS, element_windows_stand, put_windows, steps_stand, windows_stand};
+use rank_layout::{element_windows_stand, put_windows, steps_stand, windows_stand};
 use rank_state::rank_memory::scalars::{fill, merge_amounts};
 use rank_state::rank_memory::stop::{Stop, least};
+use smallvec::SmallVec;
 use std::marker::Sync;
 use std::thread::Threads;
 
-// Puts down where windows stand behind so many cells, which stood behind so many others.
-fn move_behind(width: usize, others: usize, windows: &[Place], places: &mut Vec<Place>)
-    requires fits { All (λ p. width + (p.from - others) < 2 ^ 64) windows.now }
-    requires empty { places.old.items ≡ [] }
-    requires room { length windows.now ≤ vec_capacity places.old }
-    ensures are { places.new.items ≡ map (moved width others) windows.now }
-    ensures room { vec_capacity places.new ≡ vec_capacity places.old }
+// Opens so many places, whatever they are.
+fn open_places(count: usize, places: &mut SmallVec<Place, MOST_WAYS>)
+    requires { count ≤ places.old.capacity }
+    ensures count { length places.new.items ≡ count }
+    ensures room { places.new.capacity ≡ places.old.capacity }
 {
-    for window in windows {
-        places.push_reserved(Place {
+    places.clear();
+    for _place in 0..count {
+        places.push_reserved(Place::default());
+    }
+}
+
+// Moves windows behind so many cells, which stood behind so many others.
+fn move_behind(width: usize, others: usize, windows: &mut [Place])
+    requires { All (λ p. width + (p.from - others) < 2 ^ 64) windows.old }
+    ensures { windows.new ≡ map (moved width others) windows.old }
+{
+    for i in 0..windows.len() {
+        let window = windows[i];
+        windows[i] = Place {
             from: width + window.from.saturating_sub(others),
             count: window.count,
-        });
+        };
     }
 }
 
 // Puts down where the cells of the loop's arguments on variables stand behind the rank's: as in the frame of the
 // element at a place, whose windows end with those of the loop's scalars. What is put down of arguments on dats means
 // nothing.
-fn put_behind(local: &LocalLoop<'_>, place: u32, places: &mut Vec<Place>)
-    requires sound { Sound local.now.program.now }
+fn put_behind(local: &LocalLoop<'_>, place: u32, places: &mut SmallVec<Place, MOST_WAYS>)
     requires is { IsLocalLoop local.now }
     requires step { BeginsAt local.now place }
     requires fits { local.now.part.now.cells + length local.now.scalars.now < 2 ^ 64 }
-    requires room { 16 ≤ vec_capacity places.old }
+    requires room { most_ways ≤ places.old.capacity }
     ensures stand { VariablesStand local.now places.new.items }
-    ensures room { vec_capacity places.new ≡ vec_capacity places.old }
+    ensures room { places.new.capacity ≡ places.old.capacity }
 {
     steps_stand();
     element_windows_stand();
     bound_plan::frames_are_reached();
     let bound = local.program.bound;
     let site = site_of(bound, local.item);
-    let element = original_at(local.program, local.item, local.rank, place);
-    let mut room = [Place { from: 0, count: 0 }; MAX_ARGS];
-    let windows = &mut room[..site.args.len()];
+    let element = original_in(local.program, local.item, local.rank, place);
+    open_places(site.args.len(), places);
+    let windows = places.as_mut_slice();
     let end = put_windows(bound, &site.args, element, windows);
-    places.clear();
-    move_behind(local.part.cells, end - local.scalars.len(), windows, places);
+    move_behind(local.part.cells, end - local.scalars.len(), windows);
 }
 
 // Notes the fault of the element at a place, whose original number is looked up only for a fault.
 fn note(local: &LocalLoop<'_>, place: u32, fault: Option<KernelFault>, kept: &mut Option<Stop>)
-    requires sound { Sound local.now.program.now }
+    requires is { IsLocalLoop local.now }
     requires step { BeginsAt local.now place }
     ensures { stop_in kept.new
         ≡ noted local.now.item ((layout_in local.now.program.now).original local.now.item local.now.rank place) fault (stop_in kept.old) }
 {
     if fault.is_some() {
-        let element = original_at(local.program, local.item, local.rank, place);
+        let element = original_in(local.program, local.item, local.rank, place);
         *kept = least(*kept, local.item, element, fault);
     }
 }
@@ -96,7 +102,7 @@ fn merge_owned(
     windows: &[i32],
     partials: &mut [i32],
 )
-    requires sound { Sound local.now.program.now }
+    requires is { IsLocalLoop local.now }
     requires step { BeginsAt local.now place }
     requires slots { Merges (length partials.old) local.now.scalars.now }
     requires room { length local.now.scalars.now ≤ length windows.now }
@@ -110,7 +116,7 @@ fn merge_owned(
     if local.scalars.is_empty() || fault.is_some() {
         return;
     }
-    if owns_at(local.program, local.item, local.rank, place) {
+    if owns_in(local.program, local.item, local.rank, place) {
         merge_amounts(partials, local.scalars, windows);
     }
 }
@@ -126,7 +132,7 @@ fn run_element(
     kept: &mut Option<Stop>,
     room: &mut KernelRoom,
 )
-    requires can { CanRunHere local.now }
+    requires is { IsLocalLoop local.now }
     requires step { BeginsAt local.now place }
     requires memory { length memory.old ≡ local.now.part.now.cells + length local.now.scalars.now }
     requires partials { length partials.old ≡ (tables_in local.now.program.now).slots }
@@ -165,8 +171,8 @@ fn run_element(
 }
 
 /// Runs the kernel of a loop on a rank for its elements at the places from one on and before another, one after
-/// another, on the rank's own cells, and tells of each. The room has places of the arguments, as `put_behind` or an earlier element left
-/// them. An element that faults leaves the buffer and the partials as they were. Takes no memory.
+/// another, on the rank's own cells, and tells of each. The room has places of the arguments, as `put_behind` or an
+/// earlier element left them. An element that faults leaves the buffer and the partials as they were. Takes no memory.
 pub fn run_alone<G: Gate>(
     told: &ItemGate<'_, G>,
     local: &LocalLoop<'_>,
@@ -175,7 +181,7 @@ pub fn run_alone<G: Gate>(
     share: &mut RankShare<'_>,
     room: &mut KernelRoom,
 )
-    requires can { CanRunHere local.now }
+    requires is { IsLocalLoop local.now }
     requires order { from ≤ to }
     requires fits { to ≤ length local.now.places.now }
     requires steps { AllBeginHere local.now }
@@ -212,7 +218,7 @@ pub fn run_here<R: Threads + Sync, G: Gate + Sync>(
     fault: Option<Stop>,
     room: &mut KernelRoom,
 ) -> Option<Stop>
-    requires can { CanRunHere local.now }
+    requires is { IsLocalLoop local.now }
     requires some { 0 < length local.now.places.now }
     requires steps { AllBeginHere local.now }
     requires memory { length memory.old ≡ local.now.part.now.cells + length local.now.scalars.now }

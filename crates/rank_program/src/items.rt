@@ -4,8 +4,8 @@ ghost use Rattle.std.specs.Prelude.{◌≡◌, true};
 ghost use Rattle.schedule_model.specs.Program.{is_loop};
 ghost use Rattle.bound_program.specs.Values.{bound_of};
 ghost use Rattle.bound_program.specs.Fits.{Fits};
-ghost use Rattle.bound_program.specs.Values as value;
 ghost use Rattle.run_model.specs.Programs.{item_at, kind_of, loop_of};
+ghost use Rattle.bound_program.specs.Values as value;
 ghost use Rattle.run_model.specs.Laws as the;
 
 use bound_program::{Bound, Item, Site};

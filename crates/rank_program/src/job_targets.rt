@@ -12,7 +12,7 @@ ghost use Rattle.rank_program.specs.Targets.{AllTargets};
 ghost use Rattle.rank_program.specs.Sound.{Takes, layout_in, targeted_in};
 
 use crate::items::loop_of;
-use crate::program::DistributedProgram;
+use crate::runnable::Runnable;
 use crate::{KernelJob, MOST_ARGS, Targets, Task};
 use bound_program::{Arg, Bound, Site};
 use kernel_model::types::views::Place;
@@ -59,12 +59,7 @@ fn push_all(bound: &Bound, site: &Site, tasks: &[Task], targets: &mut Vec<Target
 
 /// Puts down where the windows of the loop's arguments stand among the cells of each task's element. `targets` is lent
 /// empty, with room for as many as there are tasks. Takes no memory.
-pub fn put_targets(
-    program: &DistributedProgram<'_>,
-    item: u32,
-    tasks: &[Task],
-    targets: &mut Vec<Targets>,
-)
+pub fn put_targets(program: &Runnable<'_>, item: u32, tasks: &[Task], targets: &mut Vec<Targets>)
     requires some { 0 < length tasks.now }
     requires takes { (constants : ℕ) × ((i : ℕ) → i < length tasks.now
         → Takes program.now item (task_at tasks.now i).element constants (task_at tasks.now i).cells) }
@@ -73,6 +68,7 @@ pub fn put_targets(
     ensures targeted { targeted_in program.now item tasks.now targets.new.items }
     ensures room { vec_capacity targets.new ≡ vec_capacity targets.old }
 {
+    let program = program.parts();
     run_model::items_are_there();
     let site = &program.bound.sites[loop_of(program.bound, item) as usize];
     push_all(program.bound, site, tasks, targets);
@@ -81,7 +77,7 @@ pub fn put_targets(
 /// The runs of the kernel of the loop that is the item for these tasks with their targets, with the values of all
 /// constants. Takes no memory.
 pub fn job<'t>(
-    program: &'t DistributedProgram<'t>,
+    program: &'t Runnable<'t>,
     item: u32,
     tasks: &'t [Task],
     targets: &'t [Targets],
@@ -96,6 +92,7 @@ pub fn job<'t>(
     ensures core { (i : ℕ) (ws : List ℤ) → i < length tasks.now → length ws ≡ (task_at tasks.now i).cells
         → job_core result i ws ≡ (layout_in program.now).core item (task_at tasks.now i).element constants.now ws }
 {
+    let program = program.parts();
     run_model::items_are_there();
     run_model::constants_are_read();
     let number = loop_of(program.bound, item) as usize;

@@ -10,7 +10,7 @@ ghost use Rattle.bound_plan.specs.Windows.{frame_cells, frame_windows};
 ghost use Rattle.rank_program.specs.Sound.{Takes, layout_in};
 
 use crate::items::loop_of;
-use crate::program::DistributedProgram;
+use crate::runnable::Runnable;
 use bound_program::{Bound, Site};
 use kernel_code::run_on;
 use kernel_model::types::KernelFault;
@@ -36,7 +36,7 @@ fn put_frame(bound: &Bound, site: &Site, element: u32, places: &mut [Place])
 /// # Errors
 /// The first fault of the run; the windows then mean nothing.
 pub fn run_kernel(
-    program: &DistributedProgram<'_>,
+    program: &Runnable<'_>,
     item: u32,
     element: u32,
     constants: &[i32],
@@ -47,6 +47,7 @@ pub fn run_kernel(
     requires room { program.now.locals ≤ length scratch.old }
     ensures { ran_of windows.new result ≡ (layout_in program.now).core item element constants.now windows.old }
 {
+    let program = program.parts();
     run_model::items_are_there();
     run_model::constants_are_read();
     let number = loop_of(program.bound, item) as usize;

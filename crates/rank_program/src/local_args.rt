@@ -1,6 +1,6 @@
 // The arguments of a loop on dats by a rank's local numbers, looked up once for all its places.
 
-ghost use Rattle.std.specs.Prelude.{◌≡◌, ◌<◌, ℕ, All, length};
+ghost use Rattle.std.specs.Prelude.{◌≡◌, ℕ, All, length};
 ghost use Rattle.rank_layout.specs.DatWindows.{ArgHere, ViaHere};
 ghost use Rattle.rank_program.specs.LocalArgs.{CountsCells, IsVia, IsArg, AreArgs, place_in, places_in};
 

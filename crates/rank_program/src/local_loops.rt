@@ -2,10 +2,8 @@
 
 ghost use Rattle.std.specs.Prelude.{◌≡◌, ℕ, ◌<◌, ◌≤◌, false, length, get_or};
 ghost use Rattle.schedule_steps.specs.declared.step.Step.TheVariants.{Begin};
-ghost use Rattle.schedule_steps.specs.Steps.{IsStep};
-ghost use Rattle.schedule_model.specs.Layout.{by_place};
 ghost use Rattle.rank_program.specs.LocalLoops.{IsLocalLoop, IsLoopOf};
-ghost use Rattle.rank_program.specs.Sound.{Sound, setup_in, layout_in, tables_in};
+ghost use Rattle.rank_program.specs.Sound.{layout_in, tables_in, HasStep};
 
 use crate::items::{loop_of, site_of};
 use crate::local_args::put_local_args;
@@ -57,20 +55,18 @@ pub fn local_loop<'p: 'a, 'a>(
     constants: &'a [i32],
     room: &'a mut [Option<LocalArg<'p>>],
 ) -> LocalLoop<'a>
-    requires sound { Sound elements.now.program.now }
-    requires step { (place : ℕ) × IsStep (by_place (setup_in elements.now.program.now) (layout_in elements.now.program.now))
-        (Begin elements.now.item elements.now.rank place) }
+    requires step { (place : ℕ) × HasStep elements.now.program.now (Begin elements.now.item elements.now.rank place) }
     requires constants { length constants.now ≡ length (tables_in elements.now.program.now).constants }
     requires variables { length elements.now.variables.now ≡ (layout_in elements.now.program.now).variables }
     requires room { 16 ≤ length room.old }
     ensures of { IsLoopOf elements.now constants.now result }
     ensures is { IsLocalLoop result }
 {
+    let program = elements.program.parts();
     steps_stand();
     windows_stand();
     element_windows_stand();
     run_model::constants_are_read();
-    let program = elements.program;
     let number = loop_of(program.bound, elements.item);
     let site = site_of(program.bound, elements.item);
     let part = &program.meshes[elements.rank as usize];

@@ -2,20 +2,20 @@
 
 ghost use Rattle.std.specs.Prelude.{IfOk};
 ghost use Rattle.rank_program.specs.Rooms.{HasKernelRoom, HasRoomOf};
-ghost use Rattle.rank_program.specs.Sound.{Sound};
 
-use crate::program::DistributedProgram;
+use crate::runnable::Runnable;
 use kernel_model::types::views::Place;
 use kernel_runs::row_batches::RowRoom;
 use kernel_runs::worker_batches::BatchesRoom;
 use rank_state::{Owned, Span};
+use smallvec::SmallVec;
 use std::alloc::{AllocError, Global};
 
 /// Room for runs of kernels: where their arguments stand, their locals, the cells that they may spoil, a batch of
 /// elements, and batches that several workers run at once. What stands there means nothing between two steps.
 #[derive(Drop)]
 pub struct KernelRoom {
-    pub places: Vec<Place>,
+    pub places: SmallVec<Place, MOST_WAYS>,
     pub locals: Vec<i32>,
     pub saved: Vec<i32>,
     pub rows: RowRoom,
@@ -47,7 +47,7 @@ impl KernelRoom {
         ensures { IfOk result (HasKernelRoom locals) }
     {
         Ok(KernelRoom {
-            places: Vec::with_capacity(alloc, MOST_WAYS)?,
+            places: SmallVec::new(alloc),
             locals: vec![in alloc; 0; locals]?,
             saved: vec![in alloc; 0; MOST_SAVED]?,
             rows: RowRoom::new(alloc, MOST_WAYS, MOST_COLUMNS, MOST_COLUMNS)?,
@@ -58,15 +58,15 @@ impl KernelRoom {
 
 impl Room {
     /// As much room as any step needs that one worker takes.
-    pub fn new(alloc: Global, program: &DistributedProgram<'_>) -> Result<Room, AllocError>
-        requires { Sound program.now }
+    pub fn new(alloc: Global, program: &Runnable<'_>) -> Result<Room, AllocError>
         ensures { IfOk result (HasRoomOf program.now) }
     {
-        let most = program.tables.spans;
+        let parts = program.parts();
+        let most = parts.tables.spans;
         Ok(Room {
             spans: Vec::with_capacity(alloc, most)?,
             owned: Vec::with_capacity(alloc, most)?,
-            kernels: KernelRoom::new(alloc, program.locals)?,
+            kernels: KernelRoom::new(alloc, parts.locals)?,
             constants: vec![in alloc; 0; program.constants().len()]?,
         })
     }

@@ -3,12 +3,11 @@
 ghost use Rattle.std.specs.Prelude.{◌<◌, ◌≤◌, ◌^◌, ℕ, IfSome, length};
 ghost use Rattle.rank_program.specs.Batches.{IsRowLoop, BeginsAt};
 ghost use Rattle.rank_program.specs.LocalLoops.{IsLocalLoop, VariablesStand};
-ghost use Rattle.rank_program.specs.Sound.{Sound};
 
 use crate::items::site_of;
 use crate::local_loops::LocalLoop;
-use crate::program::DistributedProgram;
 use crate::room::MOST_COLUMNS;
+use crate::runnable::Runnable;
 use bound_program::Item;
 use kernel_code::Code;
 use kernel_model::types::views::Place;
@@ -39,7 +38,7 @@ pub struct LoopInRows<'a> {
     pub rows: RowLoop<'a>,
 }
 
-/// The loop as its elements run in rows, where its kernel is known to obey its modes and has few columns. `cells` are
+/// The loop as its elements run in rows, where its kernel has few columns. `cells` are
 /// places of its arguments on variables. The other slices are lent for its tables, whatever they hold: the ways, the
 /// columns, the places of arguments in a row's frame, and pairs of ways.
 pub fn row_loop<'p: 'a, 'a>(
@@ -50,7 +49,6 @@ pub fn row_loop<'p: 'a, 'a>(
     places: &'a mut [Place],
     pairs: &'a mut [(usize, usize)],
 ) -> Option<RowLoop<'a>>
-    requires sound { Sound local.now.program.now }
     requires is { IsLocalLoop local.now }
     requires step { (place : ℕ) × BeginsAt local.now place }
     requires stand { VariablesStand local.now cells.now }
@@ -63,11 +61,7 @@ pub fn row_loop<'p: 'a, 'a>(
     windows_stand();
     element_windows_stand();
     bound_plan::frames_are_reached();
-    let program = local.program;
-    if !program.obeying {
-        return None;
-    }
-    let site = site_of(program.bound, local.item);
+    let site = site_of(local.program.bound, local.item);
     let width = local.part.cells;
     let mut room = [0; MAX_ARGS];
     let numbers = &mut room[..site.args.len()];
@@ -94,15 +88,15 @@ pub fn row_loop<'p: 'a, 'a>(
     })
 }
 
-/// Whether elements with this kernel may run in batches, if the program's kernels obey their modes: it has not too many
-/// slots.
+/// Whether elements with this kernel may run in batches: it has not too many slots.
 pub fn runs_in_batches(code: &Code<'_>) -> bool {
     code.slots as usize <= MOST_COLUMNS
 }
 
-/// Whether the elements of a Free item may run in batches: the program's kernels are known to obey their modes, and the
-/// item's may run so. Where it may not, they run one after another.
-pub fn comes_in_batches(program: &DistributedProgram<'_>, item: u32) -> bool {
+/// Whether the elements of a Free item may run in batches, as their kernel may. Where it may not, they run one after
+/// another.
+pub fn comes_in_batches(program: &Runnable<'_>, item: u32) -> bool {
+    let program = program.parts();
     let Some(Item::Free { site }) = program.bound.trace.get(item as usize) else {
         return false;
     };
@@ -112,5 +106,5 @@ pub fn comes_in_batches(program: &DistributedProgram<'_>, item: u32) -> bool {
     let Some(code) = program.codes.get(site.kernel as usize) else {
         return false;
     };
-    program.obeying && runs_in_batches(code)
+    runs_in_batches(code)
 }

@@ -2,9 +2,8 @@ use Rattle.std.proofs.Common.{◌≡◌, ◌<◌, ◌≤◌, ◌++◌, List, ℕ
 use Rattle.std.proofs.Math.Seq.{take-append_seam}
 use Rattle.rank_state.specs.Stops.{stop_in}
 use Rattle.rank_program.specs.AloneRuns.{AllBegin, Reaches}
-use Rattle.rank_program.specs.Keeping.{KeepsIn}
 use Rattle.rank_program.specs.Rooms.{HasKernelRoom}
-use Rattle.rank_program.specs.Sound.{Sound, setup_in, layout_in, tables_in}
+use Rattle.rank_program.specs.Sound.{setup_in, layout_in, tables_in}
 use Rattle.rank_program.proofs.LocalLoops.{of_loop, to_loop}
 use Rattle.rank_program.proofs.alone.run_places.Goals as goal
 
@@ -25,13 +24,6 @@ lengthen-requires g c =
     let few = of_loop c.args.elements.now c.deref.result.now l c.local_loop-local.ensures.of
     (λ d j q xs cs vs. length l.scalars.now ≤ (tables_in d).stride) c.local_loop-local.ensures.is.stride in
     record { spare = omega (arith, few, c.requires.spare) }
-
-pub run_here-kept-requires-clause-can : goal.run_here-kept-requires-clause-can
-run_here-kept-requires-clause-can g c κs within = record {
-  sound = to_loop c.args.elements.now c.deref.result.now c.local_loop-local.result c.local_loop-local.ensures.of (λ d j q xs cs vs. Sound d) c.requires.sound;
-  is = c.local_loop-local.ensures.is;
-  keeps = to_loop c.args.elements.now c.deref.result.now c.local_loop-local.result c.local_loop-local.ensures.of (λ d j q xs cs vs. KeepsIn d j) c.requires.keeps;
-}
 
 pub run_here-kept-requires-clause-some : goal.run_here-kept-requires-clause-some
 run_here-kept-requires-clause-some g c κs within =

@@ -19,7 +19,7 @@ returns-clause-runs g c =
     let share = c.args.share.now in
     let all = c.requires.lent.memory in
     let counted : c.all_count.result ≡ true = grind (arith, common_steps, c.if-not-all_count.false) in
-    rows_go_on c.args.run.now.local.now c.args.run.now.rows can.can can.rows can.steps
+    rows_go_on c.args.run.now.local.now c.args.run.now.rows can.is can.rows can.steps
     c.steps_stand.ensures c.windows_stand.ensures.here c.windows_stand.ensures.cells c.element_windows_stand.ensures c.frames_are_reached.ensures c.finishes_here.ensures
     share.memory.now (omega (arith, all)) c.args.at c.args.count c.run_batch-ran.result c.run_batch-ran.ensures.few c.requires.fits
     c.batch_at-batch.result c.batch_at-batch.ensures (c.all_count.ensures counted)

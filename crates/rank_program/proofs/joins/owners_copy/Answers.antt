@@ -6,13 +6,14 @@ use Rattle.rank_program.proofs.joins.owners_copy.Goals as goal
 
 pub owners_span-requires : goal.owners_span-requires
 owners_span-requires c =
-    let x = c.args.program.now in
-    (c.copies_stand.ensures (program_in x) x.owners.now c.requires.sound.numbers x.meshes.now (plan_in x) c.requires.sound.halos x.lists.now
-    c.requires.sound.lists c.args.dat c.args.element c.requires.dat c.requires.element).0
+    let x = c.parts-program.result.now in
+    (c.copies_stand.ensures (program_in x) x.owners.now c.parts-program.ensures.sound.numbers x.meshes.now (plan_in x) c.parts-program.ensures.sound.halos x.lists.now
+    c.parts-program.ensures.sound.lists c.args.dat c.args.element (rw c.parts-program.ensures.are c.requires.dat) (rw c.parts-program.ensures.are c.requires.element)).0
 
 pub returns : goal.returns
 returns c =
-    let x = c.args.program.now in
+    rw (sym c.parts-program.ensures.are) (
+    let x = c.parts-program.result.now in
     subst (λ (s : Owned). IsOwnersCopy (program_in x) (setup_in x) (layout_in x) c.args.dat c.args.element s) (sym c.owners_span.ensures)
-    (c.copies_stand.ensures (program_in x) x.owners.now c.requires.sound.numbers x.meshes.now (plan_in x) c.requires.sound.halos x.lists.now
-    c.requires.sound.lists c.args.dat c.args.element c.requires.dat c.requires.element).1
+    (c.copies_stand.ensures (program_in x) x.owners.now c.parts-program.ensures.sound.numbers x.meshes.now (plan_in x) c.parts-program.ensures.sound.halos x.lists.now
+    c.parts-program.ensures.sound.lists c.args.dat c.args.element (rw c.parts-program.ensures.are c.requires.dat) (rw c.parts-program.ensures.are c.requires.element)).1)

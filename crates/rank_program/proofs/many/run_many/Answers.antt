@@ -28,7 +28,7 @@ run_at_once-requires-clause-can g c κs within =
     let part = c.part_at-part.result.now in
     let size = part_length l.places.now at count fits part c.part_at-part.ensures in
     let are = part_are l.places.now at count fits part c.part_at-part.ensures in
-    can_run l c.args.run.now.rows c.requires.can.rows c.requires.can.can.is _
+    can_run l c.args.run.now.rows c.requires.can.rows c.requires.can.is _
     (length-take-le l.part.now.cells c.args.share.now.memory.now (let all = c.requires.lent.memory in omega (arith, all))) part
     (λ j lt. subst (BeginsAt l) (sym (are j (omega (arith, lt, size)))) (c.requires.can.steps (at + j) (omega (arith, lt, size, fits))))
 
@@ -43,7 +43,7 @@ run_at_once-requires-clause-in_rows g c κs within =
     let are = part_are l.places.now at count fits part c.part_at-part.ensures in (
       modes_of (program_in l.program.now) (site_of (program_in l.program.now) l.item),
       (λ x. places_in x l.args.now c.requires.can.rows.stand),
-      in_rows l c.args.run.now.rows c.requires.can.rows c.requires.can.can.is _
+      in_rows l c.args.run.now.rows c.requires.can.rows c.requires.can.is _
           (length-take-le l.part.now.cells c.args.share.now.memory.now (let all = c.requires.lent.memory in omega (arith, all))) part
           (λ j lt. subst (BeginsAt l) (sym (are j (omega (arith, lt, size)))) (c.requires.can.steps (at + j) (omega (arith, lt, size, fits)))),
     )
@@ -69,7 +69,7 @@ returns-clause-runs g c =
     let are = part_are l.places.now at count fits part c.part_at-part.ensures in
     let all = c.requires.lent.memory in
     let counted : c.all_count.result ≡ true = grind (arith, common_steps, c.if-not-all_count.false) in
-    rows_go_on l c.args.run.now.rows can.can can.rows can.steps
+    rows_go_on l c.args.run.now.rows can.is can.rows can.steps
     c.steps_stand.ensures c.windows_stand.ensures.here c.windows_stand.ensures.cells c.element_windows_stand.ensures c.frames_are_reached.ensures c.finishes_here.ensures
     share.memory.now (omega (arith, all)) at (length part) c.run_at_once.result c.run_at_once.ensures.few (omega (arith, size, fits))
     part (λ j lt. are j (omega (arith, lt, size))) (λ j lt. c.all_count.ensures counted j (omega (arith, lt, size)))

@@ -15,19 +15,19 @@ use Rattle.rank_program.proofs.row_loops.row_loop.Goals as goal
 
 pub put_columns-requires-clause-cells : goal.put_columns-requires-clause-cells
 put_columns-requires-clause-cells c =
-    cells_count c.args.local.now c.requires.sound c.requires.is c.steps_stand.ensures c.windows_stand.ensures.here c.windows_stand.ensures.cells
+    cells_count c.args.local.now c.requires.is.sound c.requires.is c.steps_stand.ensures c.windows_stand.ensures.here c.windows_stand.ensures.cells
     c.element_windows_stand.ensures c.frames_are_reached.ensures c.requires.step.0 c.requires.step.1
     c.deref-2.result.now (c.deref-2.ensures.value ∙ ap (λ (s : SiteValue). s.args) c.site_of-site.ensures) (omega arith)
 
 pub put_columns-requires-clause-dats : goal.put_columns-requires-clause-dats
 put_columns-requires-clause-dats c =
-    dats_are c.args.local.now c.requires.sound c.requires.is c.steps_stand.ensures c.windows_stand.ensures.here c.windows_stand.ensures.cells
+    dats_are c.args.local.now c.requires.is.sound c.requires.is c.steps_stand.ensures c.windows_stand.ensures.here c.windows_stand.ensures.cells
     c.element_windows_stand.ensures c.frames_are_reached.ensures c.requires.step.0 c.requires.step.1
     c.deref-2.result.now (c.deref-2.ensures.value ∙ ap (λ (s : SiteValue). s.args) c.site_of-site.ensures)
 
 pub put_scalars-requires-clause-fits : goal.put_scalars-requires-clause-fits
 put_scalars-requires-clause-fits c =
-    scalars_count_fits c.args.local.now c.requires.sound c.requires.is c.steps_stand.ensures c.windows_stand.ensures.here c.windows_stand.ensures.cells
+    scalars_count_fits c.args.local.now c.requires.is.sound c.requires.is c.steps_stand.ensures c.windows_stand.ensures.here c.windows_stand.ensures.cells
     c.element_windows_stand.ensures c.frames_are_reached.ensures c.requires.step.0 c.requires.step.1
     c.args.cells.now c.requires.stand c.in_ok-count.count (let few = c.if-count-local-gt-MOST_COLUMNS.false in omega (arith, few))
 
@@ -59,8 +59,7 @@ returns c =
     c.put_scalars.auto.places ∙ c.put_columns.auto.places
     ∙ length-take-le c.len-3.result c.args.places.now (omega (arith, place_count, few, c.requires.places)) ∙ place_count in
     let below = c.if-count-local-gt-MOST_COLUMNS.false in
-    let obeying : l.program.now.obeying ≡ true = grind (arith, common_steps, c.if-not-program.false) in
-    made l c.requires.sound c.requires.is c.steps_stand.ensures c.windows_stand.ensures.here c.windows_stand.ensures.cells
+    made l c.requires.is.sound c.requires.is c.steps_stand.ensures c.windows_stand.ensures.here c.windows_stand.ensures.cells
     c.element_windows_stand.ensures c.frames_are_reached.ensures c.requires.step.0 c.requires.step.1 c.args.cells.now c.requires.stand
     _ numbers c.put_columns.new.places
     (record {
@@ -74,5 +73,5 @@ returns c =
     })
     refl refl places_long (λ a lt. subst
     (λ k. place_at c.put_scalars.new.places a ≡ scalar_place k l.part.now.cells (get_or l.args.now a None) (place_at c.args.cells.now a)
-    (place_at c.put_columns.new.places a)) (sym long) (c.put_scalars.ensures a (omega (arith, lt, same_few)))) obeying refl refl
+    (place_at c.put_columns.new.places a)) (sym long) (c.put_scalars.ensures a (omega (arith, lt, same_few)))) refl refl
     (omega (arith, ways, few)) (omega (arith, long, below))

@@ -3,13 +3,10 @@ use Rattle.std.proofs.lemmas.List.{take_all}
 use Rattle.bound_program.specs.Values.{var_of}
 use Rattle.bound_program.specs.declared.programs.Var.{Var}
 use Rattle.rank_layout.specs.First.{first_variables}
-use Rattle.rank_program.proofs.program.count_cells.Goals as goal
+use Rattle.rank_program.proofs.runnable.count_cells.Goals as goal
 
 pub returns : goal.returns
 returns c =
     let vars = c.args.vars.now in
-    let all =
-    c.loop-var.invariant.0
-    ∙ ap (λ (l : List Var). length (first_variables (map var_of l))) (take_all c.loop-var.var-index vars (omega (arith, c.loop-var-test.false))) in
-    let few = c.loop-var.invariant.1 in
-    omega (arith, all, few)
+    c.loop-var.invariant
+    ∙ ap (λ (l : List Var). length (first_variables (map var_of l))) (take_all c.loop-var.var-index vars (omega (arith, c.loop-var-test.false)))
