@@ -11,9 +11,8 @@ use Rattle.rank_state.proofs.Public as views
 use Rattle.rank_program.specs.declared.program.DistributedProgram.{DistributedProgram}
 use Rattle.rank_program.specs.AloneRuns.{AllBegin, Share, Reaches, share_of}
 use Rattle.rank_program.specs.FromNone.{with_fault}
-use Rattle.rank_program.specs.Keeping.{KeepsIn}
 use Rattle.rank_program.specs.Rooms.{HasRoomOf}
-use Rattle.rank_program.specs.Sound.{Sound, setup_in, layout_in, tables_in}
+use Rattle.rank_program.specs.Sound.{setup_in, layout_in, tables_in}
 use Rattle.rank_machine.specs.declared.ranks.RankPart.{RankPart}
 use Rattle.rank_machine.specs.OnRanks.{places_on, share_in, lent, CanRunOn, RanOn, RanOnRanks, share_at}
 
@@ -147,11 +146,11 @@ module _ (c : DistributedProgram) (k : ℕ) (vs : List ℤ) (ls : List (Vec ℕ 
   partials_at r d lt = sym (get_or-map (λ (v : Vec ℤ Global). v.items) ps r d [] (omega (arith, lt, as_many))) ∙ ap (λ (z : List (List ℤ)). row z r) partials
 
   -- each rank's elements can run
-  pub can_all : Sound c → KeepsIn c k → length xs < 2 ^ 32 → length ls ≡ length xs
+  pub can_all : length xs < 2 ^ 32 → length ls ≡ length xs
       → ((r : ℕ) → r < length xs → AllBegin (setup_in c) (layout_in c) (tables_in c) k r (places_on ls r))
       → All (HasSpare (tables_in c).stride) ms → All (λ (x : RankPart). HasRoomOf c x.room) xs
       → TakesEach (CanRunOn c k vs ls) 0 (lent ms ps xs)
-  can_all sound keeps few listed steps spare space = takes_all (CanRunOn c k vs ls) 0 (lent ms ps xs) at
+  can_all few listed steps spare space = takes_all (CanRunOn c k vs ls) 0 (lent ms ps xs) at
     where
       at : (r : ℕ) (d : RankPart) → r < length (lent ms ps xs) → CanRunOn c k vs ls (0 + r) (get_or (lent ms ps xs) r d)
       at r d lt =
@@ -161,8 +160,6 @@ module _ (c : DistributedProgram) (k : ℕ) (vs : List ℤ) (ls : List (Vec ℕ 
           subst (λ n. CanRunOn c k vs ls n (get_or (lent ms ps xs) r d)) none
           (subst (λ (x : RankPart). CanRunOn c k vs ls r x) (sym (lent_at ms ps xs r d d d.memory d.partials (omega (arith, here, many)) (omega (arith, here, as_many)) here))
           (record {
-            sound = sound;
-            keeps = keeps;
             few = omega (arith, here, few);
             listed = omega (arith, here, listed);
             steps = steps r here;

@@ -24,7 +24,7 @@ use Rattle.kernel_code.specs.contracts.code.Code as Code
 use Rattle.kernel_code.specs.contracts.op.Element as Element
 use Rattle.kernel_code.specs.contracts.op.Op as Op
 use Rattle.kernel_code.specs.contracts.part.Part as Part
-use Rattle.rank_program.specs.contracts.program.DistributedProgram as Program
+use Rattle.rank_program.specs.contracts.runnable.Runnable as Runnable
 use Rattle.kernel_runs.specs.contracts.row_batches.rows.RowRoom as RowRoom
 use Rattle.kernel_runs.specs.contracts.worker_batches.room.BatchPart as BatchPart
 use Rattle.kernel_runs.specs.contracts.worker_batches.room.BatchesRoom as BatchesRoom
@@ -199,11 +199,11 @@ part_sync = search (op_sync, crosses, parts.crosses, sendable) depth 60 fits 200
 code_sync : (a : NamedLft) → IsSync (Code.the_row a)
 code_sync a = search (kernel_sync, part_sync, crosses, sendable) depth 40
 
-pub program_sync : (a : NamedLft) → IsSync (Program.the_row a)
-program_sync a = search (owners_sync, rank_mesh_sync, lists_sync, plan_sync, bound_sync, code_sync, crosses, sendable) depth 60 fits 20000
+pub runnable_sync : (a : NamedLft) → IsSync (Runnable.the_row a)
+runnable_sync a = search (owners_sync, rank_mesh_sync, lists_sync, plan_sync, bound_sync, code_sync, crosses, sendable) depth 80 fits 40000
 
 pub round_sync : (a b : NamedLft) → IsSync (Round.the_row a b)
-round_sync a b = search (program_sync, crosses, sendable) depth 40
+round_sync a b = search (runnable_sync, crosses, sendable) depth 40
 
 row_room_send : IsSend RowRoom.the_row
 row_room_send = search (crosses, sendable) depth 60 fits 20000

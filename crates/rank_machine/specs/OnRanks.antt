@@ -13,9 +13,8 @@ use Rattle.rank_state.specs.Stops.{stop_in}
 use Rattle.rank_program.specs.declared.program.DistributedProgram.{DistributedProgram}
 use Rattle.rank_program.specs.AloneRuns.{AllBegin, Share, Reaches, share_of}
 use Rattle.rank_program.specs.FromNone.{kept_both, with_fault}
-use Rattle.rank_program.specs.Keeping.{KeepsIn}
 use Rattle.rank_program.specs.Rooms.{HasRoomOf}
-use Rattle.rank_program.specs.Sound.{Sound, setup_in, layout_in, tables_in}
+use Rattle.rank_program.specs.Sound.{setup_in, layout_in, tables_in}
 use Rattle.rank_machine.specs.declared.ranks.RankPart.{RankPart}
 
 -- the places on a rank, in lists by rank
@@ -36,8 +35,6 @@ lent (m ∷ ms) (p ∷ ps) (x ∷ xs) = record x { memory = m; partials = p } �
 module _ (c : DistributedProgram) (k : ℕ) (vs : List ℤ) (lists : List (Vec ℕ Global)) where
   -- the rank's elements can run on the part
   pub record CanRunOn (r : ℕ) (x : RankPart) : Type 0 where
-    pub sound : Sound c
-    pub keeps : KeepsIn c k
     pub few : r < 2 ^ 32
     pub listed : r < length lists
     pub steps : AllBegin (setup_in c) (layout_in c) (tables_in c) k r (places_on lists r)

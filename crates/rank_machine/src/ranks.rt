@@ -1,16 +1,16 @@
 // The elements of an item on all ranks at once.
 
-ghost use Rattle.std.specs.Prelude.{◌≡◌, ◌+◌, ◌<◌, ◌^◌, ◌||◌, map, length};
+ghost use Rattle.std.specs.Prelude.{◌≡◌, ◌+◌, ◌<◌, ◌^◌, map, length};
 ghost use denote.Param.Send.{IsSync};
-ghost use Rattle.schedule_model.specs.Machine.{is_less, is_less_element};
+ghost use Rattle.schedule_model.specs.Machine.{is_less_element};
 ghost use Rattle.par_exec.specs.Parts.{TakesEach, MadeEach};
-ghost use Rattle.rank_state.specs.Stops.{stop_of, stop_in};
+ghost use Rattle.rank_state.specs.Stops.{stop_in};
 ghost use Rattle.rank_program.specs.FromNone.{kept_both};
 ghost use Rattle.rank_machine.specs.OnRanks.{CanRunOn, RanOn, share_in, lent, kept_of_all, RanLent};
 
 use kernel_runs::worker_batches::Workers;
 use par_exec::{Crew, Gate, ItemGate};
-use rank_program::{DistributedProgram, RankElements, Room, run_places};
+use rank_program::{RankElements, Room, Runnable, run_places};
 use rank_state::rank_memory::stop::Stop;
 use std::marker::Sync;
 use std::mem::swap;
@@ -29,7 +29,7 @@ pub struct RankPart {
 /// The elements of an item, by places for each rank, with the values of all variables.
 #[derive(Drop)]
 pub struct Round<'a, 'b> {
-    pub program: &'a DistributedProgram<'b>,
+    pub program: &'a Runnable<'b>,
     pub lists: &'a [Vec<u32>],
     pub item: u32,
     pub variables: &'a [i32],

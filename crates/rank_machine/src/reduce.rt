@@ -1,6 +1,6 @@
 // The partials of all ranks go into the variables.
 
-ghost use Rattle.std.specs.Prelude.{◌≡◌, ◌<◌, ℕ, ℤ, [], length, map, slice_index_or, pos, slice_set};
+ghost use Rattle.std.specs.Prelude.{◌≡◌, ◌<◌, ℕ, [], length, map, slice_index_or, pos, slice_set};
 ghost use Rattle.op_num.specs.Reduction.{merged};
 ghost use Rattle.rank_state.specs.Windows.{operation, index, Reads, InSlots, Merges};
 ghost use Rattle.rank_state.specs.Joins.{merge_rows, reduce_one, reduce_all, unite_one, unite as united};

@@ -1,58 +1,54 @@
 // Each begin and end of a list, on a machine whose lists show a state of the machine on flat buffers.
 
 ghost use Rattle.std.specs.Prelude.{◌≡◌, ◌≢◌, ◌<◌, ◌≤◌, ◌+◌, length};
-ghost use Rattle.kernel_model.specs.declared.types.faults.KernelFault.{KernelFault};
 ghost use Rattle.schedule_steps.specs.declared.step.Step.TheVariants.{Begin, End};
-ghost use Rattle.schedule_steps.specs.Steps.{IsStep};
-ghost use Rattle.schedule_model.specs.Layout.{by_place};
-ghost use Rattle.schedule_model.specs.Flat.{Flat, Shut_pane, flat_step};
+ghost use Rattle.schedule_model.specs.Flat.{Shut_pane};
 ghost use Rattle.rank_state.specs.Frames.{Shut, pane_at};
 ghost use Rattle.rank_state.specs.Indices.{values_at};
-ghost use Rattle.rank_state.specs.Shows.{AreWindows, Shows, pane_in};
+ghost use Rattle.rank_state.specs.Shows.{AreWindows, pane_in};
 ghost use Rattle.rank_program.specs.Rooms.{HasRoomOf};
-ghost use Rattle.rank_program.specs.Sound.{Sound, setup_in, layout_in, tables_in};
+ghost use Rattle.rank_program.specs.Sound.{setup_in, layout_in, tables_in, HasStep};
+ghost use Rattle.rank_machine.specs.Shown.{IsShowing, StepDone};
 
 use crate::machine::Machine;
 use crate::windows::{Begun, Windows};
 use kernel_model::types::KernelFault;
-use rank_program::{DistributedProgram, Room, original_at, owns_at, push_element};
+use rank_program::{Room, Runnable, original_at, owns_at, push_element};
 
 /// Copies the values of all constants.
-pub fn read_constants(machine: &Machine, program: &DistributedProgram<'_>, values: &mut Vec<i32>)
-    requires sound { Sound program.now }
+pub fn read_constants(machine: &Machine, program: &Runnable<'_>, values: &mut Vec<i32>)
     requires count { length values.old.items ≡ length (tables_in program.now).constants }
-    requires shows { (f : Flat KernelFault) × Shows (setup_in program.now) (layout_in program.now) (tables_in program.now) machine.now f }
+    requires shows { IsShowing program.now machine.now }
     ensures values { values.new.items ≡ values_at machine.now.variables (tables_in program.now).constants }
     ensures count { length values.new.items ≡ length (tables_in program.now).constants }
 {
+    program.is_sound();
     machine.read(program.constants(), values);
 }
 
 // A begin on the windows of these spans and scalars.
 fn begin_on(
     machine: &mut Machine,
-    program: &DistributedProgram<'_>,
+    program: &Runnable<'_>,
     element: Begun,
     windows: &Windows<'_>,
     constants: &[i32],
     locals: &mut [i32],
 )
-    requires sound { Sound program.now }
-    requires planned { IsStep (by_place (setup_in program.now) (layout_in program.now)) (Begin element.item element.rank element.place) }
+    requires planned { HasStep program.now (Begin element.item element.rank element.place) }
     requires original { element.original ≡ (layout_in program.now).original element.item element.rank element.place }
     requires are { AreWindows (setup_in program.now) (layout_in program.now) (tables_in program.now)
         element.item element.rank element.place windows.now.spans.now windows.now.scalars.now }
     requires values { constants.now ≡ values_at machine.old.variables (tables_in program.now).constants }
     requires locals { program.now.locals ≤ length locals.old }
-    requires shows { (f : Flat KernelFault) × Shows (setup_in program.now) (layout_in program.now) (tables_in program.now) machine.old f }
+    requires shows { IsShowing program.now machine.old }
     requires shut { pane_at machine.old.frames.panes element.rank element.place ≡ Shut }
     requires room { 0 < machine.old.frames.left }
-    ensures shows { (f : Flat KernelFault) → Shows (setup_in program.now) (layout_in program.now) (tables_in program.now) machine.old f
-        → Shows (setup_in program.now) (layout_in program.now) (tables_in program.now) machine.new
-        (flat_step (setup_in program.now) (layout_in program.now) (Begin element.item element.rank element.place) f) }
+    ensures shows { StepDone program.now (Begin element.item element.rank element.place) machine.old machine.new }
     ensures mail { machine.new.mail.left ≡ machine.old.mail.left }
     ensures frames { machine.new.frames.left + 1 ≡ machine.old.frames.left }
 {
+    program.is_sound();
     rank_state::begin_shows::<KernelFault>();
     rank_state::steps_can::<KernelFault>();
     rank_state::windows_are_counted::<KernelFault>();
@@ -62,21 +58,18 @@ fn begin_on(
 /// A begin.
 pub fn begin(
     machine: &mut Machine,
-    program: &DistributedProgram<'_>,
+    program: &Runnable<'_>,
     room: &mut Room,
     item: u32,
     rank: u32,
     place: u32,
 )
-    requires sound { Sound program.now }
-    requires planned { IsStep (by_place (setup_in program.now) (layout_in program.now)) (Begin item rank place) }
+    requires planned { HasStep program.now (Begin item rank place) }
     requires space { HasRoomOf program.now room.old }
-    requires shows { (f : Flat KernelFault) × Shows (setup_in program.now) (layout_in program.now) (tables_in program.now) machine.old f }
+    requires shows { IsShowing program.now machine.old }
     requires shut { pane_at machine.old.frames.panes rank place ≡ Shut }
     requires room { 0 < machine.old.frames.left }
-    ensures shows { (f : Flat KernelFault) → Shows (setup_in program.now) (layout_in program.now) (tables_in program.now) machine.old f
-        → Shows (setup_in program.now) (layout_in program.now) (tables_in program.now) machine.new
-        (flat_step (setup_in program.now) (layout_in program.now) (Begin item rank place) f) }
+    ensures shows { StepDone program.now (Begin item rank place) machine.old machine.new }
     ensures space { HasRoomOf program.now room.new }
     ensures mail { machine.new.mail.left ≡ machine.old.mail.left }
     ensures frames { machine.new.frames.left + 1 ≡ machine.old.frames.left }
@@ -107,24 +100,22 @@ pub fn begin(
 // An end on the windows of these spans and scalars.
 fn end_on(
     machine: &mut Machine,
-    program: &DistributedProgram<'_>,
+    program: &Runnable<'_>,
     item: u32,
     rank: u32,
     place: u32,
     windows: &Windows<'_>,
 )
-    requires sound { Sound program.now }
-    requires planned { IsStep (by_place (setup_in program.now) (layout_in program.now)) (End item rank place) }
+    requires planned { HasStep program.now (End item rank place) }
     requires are { AreWindows (setup_in program.now) (layout_in program.now) (tables_in program.now)
         item rank place windows.now.spans.now windows.now.scalars.now }
-    requires shows { (f : Flat KernelFault) × Shows (setup_in program.now) (layout_in program.now) (tables_in program.now) machine.old f }
+    requires shows { IsShowing program.now machine.old }
     requires open { pane_in item (pane_at machine.old.frames.panes rank place) ≢ Shut_pane }
-    ensures shows { (f : Flat KernelFault) → Shows (setup_in program.now) (layout_in program.now) (tables_in program.now) machine.old f
-        → Shows (setup_in program.now) (layout_in program.now) (tables_in program.now) machine.new
-        (flat_step (setup_in program.now) (layout_in program.now) (End item rank place) f) }
+    ensures shows { StepDone program.now (End item rank place) machine.old machine.new }
     ensures mail { machine.new.mail.left ≡ machine.old.mail.left }
     ensures frames { machine.new.frames.left ≡ machine.old.frames.left + 1 }
 {
+    program.is_sound();
     rank_state::end_shows::<KernelFault>();
     rank_state::steps_can::<KernelFault>();
     let own = owns_at(program, item, rank, place);
@@ -134,20 +125,17 @@ fn end_on(
 /// An end.
 pub fn end(
     machine: &mut Machine,
-    program: &DistributedProgram<'_>,
+    program: &Runnable<'_>,
     room: &mut Room,
     item: u32,
     rank: u32,
     place: u32,
 )
-    requires sound { Sound program.now }
-    requires planned { IsStep (by_place (setup_in program.now) (layout_in program.now)) (End item rank place) }
+    requires planned { HasStep program.now (End item rank place) }
     requires space { HasRoomOf program.now room.old }
-    requires shows { (f : Flat KernelFault) × Shows (setup_in program.now) (layout_in program.now) (tables_in program.now) machine.old f }
+    requires shows { IsShowing program.now machine.old }
     requires open { pane_in item (pane_at machine.old.frames.panes rank place) ≢ Shut_pane }
-    ensures shows { (f : Flat KernelFault) → Shows (setup_in program.now) (layout_in program.now) (tables_in program.now) machine.old f
-        → Shows (setup_in program.now) (layout_in program.now) (tables_in program.now) machine.new
-        (flat_step (setup_in program.now) (layout_in program.now) (End item rank place) f) }
+    ensures shows { StepDone program.now (End item rank place) machine.old machine.new }
     ensures space { HasRoomOf program.now room.new }
     ensures mail { machine.new.mail.left ≡ machine.old.mail.left }
     ensures frames { machine.new.frames.left ≡ machine.old.frames.left + 1 }

@@ -1,6 +1,6 @@
 // Elements on ranks, and their windows.
 
-use rank_program::DistributedProgram;
+use rank_program::Runnable;
 use rank_state::{Owned, Scalar, Span};
 
 /// An element of an item that a rank begins: its place there, and its number in its set.
@@ -30,7 +30,7 @@ pub struct OwnedWindows<'a> {
 /// A run of the kernel of a program's loop for an element.
 #[derive(Drop)]
 pub struct KernelRun<'a> {
-    pub program: &'a DistributedProgram<'a>,
+    pub program: &'a Runnable<'a>,
     /// the item that is the loop
     pub item: u32,
     /// the element's number in its set

@@ -10,15 +10,14 @@ ghost use Rattle.rank_state.specs.Machine.{row, begun_as, ended, windows_of};
 ghost use Rattle.rank_state.specs.Shows.{Sized};
 ghost use Rattle.rank_program.specs.Rooms.{HasRoomOf};
 ghost use Rattle.rank_program.specs.AloneRuns.{AllBegin, Share, Reaches, share_of, with_share};
-ghost use Rattle.rank_program.specs.Sound.{Sound, Takes, setup_in, layout_in, tables_in};
-ghost use Rattle.rank_program.specs.Keeping.{KeepsIn};
+ghost use Rattle.rank_program.specs.Sound.{Takes, setup_in, layout_in, tables_in};
 
 use crate::machine::Machine;
 use crate::running::{Cells, run_in};
 use crate::windows::{Begun, KernelRun, Windows};
 use kernel_runs::worker_batches::Workers;
 use par_exec::{Gate, ItemGate};
-use rank_program::{DistributedProgram, RankElements, Room, run_places};
+use rank_program::{RankElements, Room, Runnable, run_places};
 use rank_state::rank_memory::ending::Ending;
 use rank_state::rank_memory::loading::load;
 use rank_state::rank_memory::stop::least;
@@ -42,7 +41,7 @@ impl Machine {
     /// Runs an element's kernel in a frame of its own.
     pub fn begin(
         &mut self,
-        program: &DistributedProgram<'_>,
+        program: &Runnable<'_>,
         constants: &[i32],
         element: Begun,
         windows: &Windows<'_>,
@@ -125,13 +124,11 @@ impl Machine {
     pub fn in_place<R: Threads + Sync, G: Gate + Sync>(
         &mut self,
         threads: &R,
-        program: &DistributedProgram<'_>,
+        program: &Runnable<'_>,
         told: &ItemGate<'_, G>,
         places: &[u32],
         room: &mut Room,
     )
-        requires sound { Sound program.now }
-        requires keeps { KeepsIn program.now told.now.item }
         requires some { 0 < length places.now }
         requires steps { AllBegin (setup_in program.now) (layout_in program.now) (tables_in program.now)
             told.now.item told.now.rank places.now }

@@ -6,14 +6,13 @@ ghost use Rattle.rank_state.specs.Indices.{values_at};
 ghost use Rattle.rank_state.specs.Shows.{Sized};
 ghost use Rattle.rank_program.specs.AloneRuns.{AllBegin, Share};
 ghost use Rattle.rank_program.specs.Rooms.{HasRoomOf};
-ghost use Rattle.rank_program.specs.Sound.{Sound, setup_in, layout_in, tables_in};
-ghost use Rattle.rank_program.specs.Keeping.{KeepsIn};
+ghost use Rattle.rank_program.specs.Sound.{setup_in, layout_in, tables_in};
 ghost use Rattle.rank_machine.specs.OnRanks.{places_on, RanOnRanks, share_at, with_shares};
 
 use crate::machine::Machine;
 use crate::ranks::{RankPart, Round, run_lent};
 use par_exec::{Crew, Gate};
-use rank_program::DistributedProgram;
+use rank_program::Runnable;
 use std::marker::Sync;
 use std::thread::Threads;
 
@@ -32,13 +31,11 @@ impl Machine {
     pub fn on_ranks<R: Threads + Sync, G: Gate + Sync>(
         &mut self,
         crew: &Crew<'_, R, G>,
-        program: &DistributedProgram<'_>,
+        program: &Runnable<'_>,
         item: u32,
         lists: &[Vec<u32>],
         parts: &mut [RankPart],
     )
-        requires sound { Sound program.now }
-        requires keeps { KeepsIn program.now item }
         requires listed { length lists.now ≡ length parts.old }
         requires ranks { length parts.old ≡ length self.old.memories }
         requires few { length parts.old < 2 ^ 32 }

@@ -20,5 +20,5 @@ returns-clause-shows c f h =
     (flat_step (setup_in c.args.program.now) (layout_in c.args.program.now) (Recv c.args.item c.args.rank c.args.from) f))
     (sym c.recv.ensures)
     (c.recv_shows.ensures (setup_in c.args.program.now) (layout_in c.args.program.now) (tables_in c.args.program.now)
-    c.requires.sound.indexed c.args.item c.args.rank c.args.from c.requires.planned.3 c.args.spans.now c.requires.are c.args.machine.now
+    c.is_sound.ensures.indexed c.args.item c.args.rank c.args.from c.requires.planned.3 c.args.spans.now c.requires.are c.args.machine.now
     f h c.requires.oldest)

@@ -22,7 +22,7 @@ returns-clause-shows c f h =
     (flat_step (setup_in c.args.program.now) (layout_in c.args.program.now) (Send c.args.item c.args.from c.args.to) f))
     (sym c.send.ensures)
     (c.send_shows.ensures (setup_in c.args.program.now) (layout_in c.args.program.now) (tables_in c.args.program.now)
-    c.requires.sound.indexed c.args.item c.args.from c.args.to c.requires.planned.2 c.args.spans.now c.requires.are c.args.machine.now f
+    c.is_sound.ensures.indexed c.args.item c.args.from c.args.to c.requires.planned.2 c.args.spans.now c.requires.are c.args.machine.now f
     h)
 
 pub returns-clause-mail : goal.returns-clause-mail

@@ -3,7 +3,7 @@ use Rattle.std.proofs.Common.{◌∙◌, ap₂, subst, sym}
 use Rattle.std.proofs.Crossing.{crosses}
 use Rattle.par_exec.specs.Parts.{TakesEach, MadeEach}
 use Rattle.rank_machine.specs.OnRanks.{lent, CanRunOn, RanOn}
-use Rattle.rank_machine.proofs.Sharing.{program_sync}
+use Rattle.rank_machine.proofs.Sharing.{runnable_sync}
 use Rattle.rank_machine.proofs.ranks.run_lent.Goals as goal
 
 pub run_from-requires-clause-can : goal.run_from-requires-clause-can

@@ -29,12 +29,12 @@ returns-clause-shows c f h =
     (flat_step (setup_in c.args.program.now) (layout_in c.args.program.now)
     (Begin c.args.element.item c.args.element.rank c.args.element.place) f)) (sym same)
     (c.begin_shows.ensures (setup_in c.args.program.now) (layout_in c.args.program.now) (tables_in c.args.program.now)
-    c.requires.sound.indexed c.requires.sound.layout c.args.element.item c.args.element.rank c.args.element.place c.requires.planned
+    c.is_sound.ensures.indexed c.is_sound.ensures.layout c.args.element.item c.args.element.rank c.args.element.place c.requires.planned
     c.args.windows.now.spans.now c.args.windows.now.scalars.now c.requires.are c.args.machine.now f h c.requires.shut)
 
 pub begin-requires-clause-takes : goal.begin-requires-clause-takes
 begin-requires-clause-takes c =
-    let w = c.windows_are_counted.ensures.elements (setup_in c.args.program.now) (layout_in c.args.program.now) c.requires.sound.layout
+    let w = c.windows_are_counted.ensures.elements (setup_in c.args.program.now) (layout_in c.args.program.now) c.is_sound.ensures.layout
     c.args.element.item c.args.element.rank c.args.element.place c.requires.planned in
     subst (λ e. Takes c.args.program.now c.args.element.item e (length c.args.constants.now) (total c.args.windows.now.spans.now + length c.args.windows.now.scalars.now)) (sym c.requires.original)
     (subst (λ n. Takes c.args.program.now c.args.element.item
@@ -47,4 +47,4 @@ begin-requires-clause-takes c =
     (sym (c.windows_are_counted.ensures.windows (setup_in c.args.program.now) (layout_in c.args.program.now)
     (tables_in c.args.program.now) c.args.element.item c.args.element.rank c.args.element.place c.args.windows.now.spans.now
     c.args.windows.now.scalars.now c.requires.are))
-    (each_runs c.args.program.now c.requires.sound c.args.element.item ((layout_in c.args.program.now).original c.args.element.item c.args.element.rank c.args.element.place) (ap is_loop w.0) w.1)))
+    (each_runs c.args.program.now c.args.element.item ((layout_in c.args.program.now).original c.args.element.item c.args.element.rank c.args.element.place) (ap is_loop w.0) w.1)))

@@ -11,19 +11,19 @@ use Rattle.rank_machine.proofs.steps.end_on.Goals as goal
 pub end-requires-clause-slots : goal.end-requires-clause-slots
 end-requires-clause-slots c =
     (c.steps_can.ensures.end (setup_in c.args.program.now) (layout_in c.args.program.now) (tables_in c.args.program.now) c.args.machine.now
-    c.requires.shows.0 c.requires.shows.1 c.requires.sound.indexed c.args.item c.args.rank c.args.place c.requires.planned
+    c.requires.shows.0 c.requires.shows.1 c.is_sound.ensures.indexed c.args.item c.args.rank c.args.place c.requires.planned
     c.args.windows.now.spans.now c.args.windows.now.scalars.now c.requires.are c.requires.«open»).slots
 
 pub end-requires-clause-enough : goal.end-requires-clause-enough
 end-requires-clause-enough c =
     (c.steps_can.ensures.end (setup_in c.args.program.now) (layout_in c.args.program.now) (tables_in c.args.program.now) c.args.machine.now
-    c.requires.shows.0 c.requires.shows.1 c.requires.sound.indexed c.args.item c.args.rank c.args.place c.requires.planned
+    c.requires.shows.0 c.requires.shows.1 c.is_sound.ensures.indexed c.args.item c.args.rank c.args.place c.requires.planned
     c.args.windows.now.spans.now c.args.windows.now.scalars.now c.requires.are c.requires.«open»).enough
 
 pub end-requires-clause-exact : goal.end-requires-clause-exact
 end-requires-clause-exact c =
     (c.steps_can.ensures.end (setup_in c.args.program.now) (layout_in c.args.program.now) (tables_in c.args.program.now) c.args.machine.now
-    c.requires.shows.0 c.requires.shows.1 c.requires.sound.indexed c.args.item c.args.rank c.args.place c.requires.planned
+    c.requires.shows.0 c.requires.shows.1 c.is_sound.ensures.indexed c.args.item c.args.rank c.args.place c.requires.planned
     c.args.windows.now.spans.now c.args.windows.now.scalars.now c.requires.are c.requires.«open»).exact
 
 pub returns-clause-shows : goal.returns-clause-shows
@@ -36,5 +36,5 @@ returns-clause-shows c f h =
     (flat_step (setup_in c.args.program.now) (layout_in c.args.program.now) (End c.args.item c.args.rank c.args.place) f))
     (sym (c.end.ensures ∙ ap (λ o. ended o c.args.rank c.args.place c.args.windows.now.spans.now c.args.windows.now.scalars.now c.args.machine.now) own))
     (c.end_shows.ensures (setup_in c.args.program.now) (layout_in c.args.program.now) (tables_in c.args.program.now)
-    c.requires.sound.indexed c.args.item c.args.rank c.args.place c.requires.planned c.args.windows.now.spans.now
+    c.is_sound.ensures.indexed c.args.item c.args.rank c.args.place c.requires.planned c.args.windows.now.spans.now
     c.args.windows.now.scalars.now c.requires.are c.args.machine.now f h c.requires.«open»)

@@ -30,7 +30,7 @@ run_lent-kept-requires-clause-can g c κs within =
     let all : TakesEach (CanRunOn x c.args.item c.deref.result.now c.args.lists.now) 0 (lent ms ps xs) =
     can_all x c.args.item c.deref.result.now c.args.lists.now ms ps xs st (ap (λ (s : State KernelFault). s.memories) c.self.view_is) (ap (λ (s : State KernelFault). s.partials) c.self.view_is)
     (c.deref.ensures.value ∙ ap (λ (s : State KernelFault). s.variables) c.self.view_is)
-    c.requires.ranks c.requires.sized c.requires.sound c.requires.keeps c.requires.few c.requires.listed c.requires.steps spare c.requires.space in
+    c.requires.ranks c.requires.sized c.requires.few c.requires.listed c.requires.steps spare c.requires.space in
     subst (λ z. TakesEach (CanRunOn x c.args.item c.deref.result.now c.args.lists.now) 0 (lent z c.deref_mut-2.result.now xs)) (sym c.deref_mut.ensures.value)
     (subst (λ z. TakesEach (CanRunOn x c.args.item c.deref.result.now c.args.lists.now) 0 (lent ms z xs)) (sym c.deref_mut-2.ensures.value) all)
 
