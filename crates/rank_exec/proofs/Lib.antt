@@ -15,3 +15,4 @@ mod AllShares
 mod SameStart
 mod Held
 mod StandingCells
+mod PutValues

@@ -8,3 +8,4 @@ pub mod Closed
 pub mod Peaks
 pub mod Orders
 pub mod Room
+pub mod Taken

@@ -1,21 +1,20 @@
 // The steps of a list, one after another, up to the first that stops.
 
-ghost use Rattle.std.specs.Prelude.{◌≡◌, ◌<◌, ◌+◌, ◌++◌, ℕ, List, Option, None, IfOk};
+ghost use Rattle.std.specs.Prelude.{◌≡◌, ◌+◌, ◌++◌, List, None, IfOk};
 ghost use Rattle.kernel_model.specs.declared.types.faults.KernelFault.{KernelFault};
 ghost use Rattle.schedule_steps.specs.declared.step.Step.{Step};
-ghost use Rattle.schedule_steps.specs.declared.step.Step.TheVariants.{Send, Recv, Begin, End, Join};
-ghost use Rattle.schedule_steps.specs.Steps.{IsStep, Accepted};
+ghost use Rattle.schedule_steps.specs.Steps.{Accepted};
 ghost use Rattle.schedule_model.specs.Laws.{Lawful, Coloured};
 ghost use Rattle.schedule_model.specs.Sequential.{sequential};
 ghost use Rattle.schedule_model.specs.Layout.{by_place};
-ghost use Rattle.schedule_model.specs.Flat.{Flat, StartsFlat, flat_step, flat_from};
+ghost use Rattle.schedule_model.specs.Flat.{Flat, StartsFlat, flat_from};
 ghost use Rattle.rank_program.specs.Rooms.{HasRoomOf};
 ghost use Rattle.rank_exec.specs.RunRooms.{HasRunRoomOf};
-ghost use Rattle.rank_state.specs.Shows.{Shows};
 ghost use Rattle.rank_state.specs.Stops.{stop_in};
-ghost use Rattle.rank_exec.specs.Driving.{Ready, After, posts, takes, opens, shuts, FitsPeak, AsSequential};
-ghost use Rattle.rank_program.specs.Sound.{Sound, setup_in, layout_in, tables_in};
-ghost use Rattle.rank_program.specs.Keeping.{KeepsIn};
+ghost use Rattle.rank_exec.specs.Driving.{posts, takes, opens, shuts, FitsPeak, AsSequential};
+ghost use Rattle.rank_program.specs.Sound.{setup_in, layout_in, HasStep};
+ghost use Rattle.rank_machine.specs.Shown.{ShowsState, IsShowing};
+ghost use Rattle.rank_exec.specs.Taken.{IsReady, StepEnds};
 
 use crate::begins::{BeginAt, Begun};
 use crate::behind::run_behind;
@@ -29,7 +28,7 @@ use op_num::OutOfMemory;
 use par_exec::{Crew, Gate};
 use rank_machine::machine::Machine;
 use rank_machine::{messages, steps};
-use rank_program::{DistributedProgram, Room};
+use rank_program::{Room, Runnable};
 use rank_state::rank_memory::stop::Stop;
 use schedule_steps::Step;
 use std::marker::Sync;
@@ -39,19 +38,16 @@ use std::thread::Threads;
 fn take<R: Threads + Sync, G: Gate + Sync>(
     crew: &Crew<'_, R, G>,
     machine: &mut Machine,
-    program: &DistributedProgram<'_>,
+    program: &Runnable<'_>,
     room: &mut Room,
     step: Step,
 ) -> Result<Option<Stop>, OutOfMemory>
-    requires sound { Sound program.now }
     requires space { HasRoomOf program.now room.old }
-    requires planned { IsStep (by_place (setup_in program.now) (layout_in program.now)) step }
-    requires shows { (f : Flat KernelFault) × Shows (setup_in program.now) (layout_in program.now) (tables_in program.now) machine.old f }
-    requires ready { Ready (setup_in program.now) (layout_in program.now) (tables_in program.now) step machine.old }
+    requires planned { HasStep program.now step }
+    requires shows { IsShowing program.now machine.old }
+    requires ready { IsReady program.now step machine.old }
     ensures after { IfOk result
-        (λ stop. (f : Flat KernelFault) → Shows (setup_in program.now) (layout_in program.now) (tables_in program.now) machine.old f
-        → After (setup_in program.now) (layout_in program.now) (tables_in program.now) (stop_in stop) machine.new
-        (flat_step (setup_in program.now) (layout_in program.now) step f)) }
+        (λ stop. StepEnds program.now step (stop_in stop) machine.old machine.new) }
     ensures mail { machine.new.mail.left + posts (layout_in program.now) step ≡ machine.old.mail.left + takes (layout_in program.now) step }
     ensures frames { machine.new.frames.left + opens step ≡ machine.old.frames.left + shuts step }
     ensures space { HasRoomOf program.now room.new }
@@ -88,9 +84,9 @@ fn take<R: Threads + Sync, G: Gate + Sync>(
 /// machine's lists, its memories among them, show where the machine on flat buffers ends.
 ///
 /// A run of begins is done in groups by the workers of `crew`, and its gate is told of each begin of a group; a begin
-/// that its own end follows is done in place. So are closed groups that the stream tells behind a step: with several
-/// workers and ranks in rounds, of which the gate is told of each rank, else where their kernel is short. The answer is
-/// the same for every crew. `room` is what [`RunRoom::new`] gives; memory is wanted for what joins print, and for the
+/// that its own end follows is done in place. So are closed groups that the stream tells after a step: with several
+/// workers in rounds, of which the gate is told of each rank, with one after ends. The answer is the same for every
+/// crew. `room` is what [`RunRoom::new`] gives; memory is wanted for what joins print, and for the
 /// places of rounds.
 ///
 /// However it ends, by the last step, by a stop or for want of memory, what `steps` still holds is a suffix of what it
@@ -101,27 +97,26 @@ fn take<R: Threads + Sync, G: Gate + Sync>(
 pub fn drive<R: Threads + Sync, G: Gate + Sync, S: Steps>(
     crew: &Crew<'_, R, G>,
     machine: &mut Machine,
-    program: &DistributedProgram<'_>,
+    program: &Runnable<'_>,
     room: &mut RunRoom,
     steps: &mut S,
 ) -> Result<Option<Stop>, OutOfMemory>
-    requires sound { Sound program.now }
-    requires keeps { (k : ℕ) → KeepsIn program.now k }
     requires space { HasRunRoomOf program.now room.old }
     requires lawful { Lawful (setup_in program.now) }
     requires coloured { Coloured (setup_in program.now) }
     requires accepted { Accepted (by_place (setup_in program.now) (layout_in program.now)) (S.left steps.old) }
     requires starts { (f : Flat KernelFault) × StartsFlat (setup_in program.now) (layout_in program.now) f
-        × Shows (setup_in program.now) (layout_in program.now) (tables_in program.now) machine.old f }
+        × ShowsState program.now machine.old f }
     requires peak { FitsPeak (layout_in program.now) machine.old.frames.left machine.old.mail.left (S.left steps.old) }
     ensures same { IfOk result (λ stop. AsSequential (sequential (setup_in program.now).program) (stop_in stop) machine.new.output) }
     ensures shows { IfOk result
         (λ stop. stop ≡ None → (f : Flat KernelFault) → StartsFlat (setup_in program.now) (layout_in program.now) f
-        → Shows (setup_in program.now) (layout_in program.now) (tables_in program.now) machine.old f
-        → Shows (setup_in program.now) (layout_in program.now) (tables_in program.now) machine.new
+        → ShowsState program.now machine.old f
+        → ShowsState program.now machine.new
         (flat_from (setup_in program.now) (layout_in program.now) (S.left steps.old) f)) }
     ensures suffix { (front : List Step) × (S.left steps.old ≡ front ++ S.left steps.new) }
 {
+    program.is_sound();
     schedule_model::flat_machine::flat_runs_as_sequential::<KernelFault>();
     schedule_steps::peak_is_room();
     rank_state::steps_are_ready::<KernelFault>();
@@ -129,7 +124,7 @@ pub fn drive<R: Threads + Sync, G: Gate + Sync, S: Steps>(
     let mut under_way = None;
     let mut next = next_of(steps);
     while let Some(step) = next {
-        go_on(crew.gate, program.bound, under_way, item_of(step));
+        go_on(crew.gate, program.parts().bound, under_way, item_of(step));
         under_way = Some(item_of(step));
         if let Step::Begin { item, rank, place } = step {
             let begin = BeginAt { item, rank, place };

@@ -1,20 +1,17 @@
 // Runs of begins.
 
 ghost use Rattle.std.specs.Prelude.{◌≡◌, ◌<◌, ◌≤◌, ◌+◌, ◌*◌, ◌++◌, ◌∷◌, ℕ, true, [], List, length, take, None, Some, vec_capacity};
-ghost use Rattle.kernel_model.specs.declared.types.faults.KernelFault.{KernelFault};
 ghost use Rattle.schedule_steps.specs.declared.step.Step.{Step};
 ghost use Rattle.schedule_steps.specs.declared.step.Step.TheVariants.{Begin, End};
-ghost use Rattle.rank_exec.specs.Closed.{GroupsAreAlone};
-ghost use Rattle.schedule_model.specs.Flat.{Flat};
 ghost use Rattle.rank_exec.specs.RunRooms.{most_begins, HasRunRoomOf};
-ghost use Rattle.rank_state.specs.Shows.{Shows};
 ghost use Rattle.rank_state.specs.Groups.{begins};
 ghost use Rattle.rank_program.specs.Jobs.{Accepts, RanIn, job_core, part, task_at};
 ghost use Rattle.rank_exec.specs.Tasks.{HasGroupRoom, KeepsGroupRoom};
-ghost use Rattle.rank_exec.specs.Driving.{Done, ComeReady, to_come, behind};
+ghost use Rattle.rank_exec.specs.Driving.{to_come, behind};
 ghost use Rattle.rank_exec.specs.declared.begins.Begun.TheVariants.{Group};
-ghost use Rattle.rank_program.specs.Sound.{Sound, Takes, setup_in, layout_in, tables_in};
-ghost use Rattle.rank_program.specs.Keeping.{KeepsIn};
+ghost use Rattle.rank_program.specs.Sound.{Takes, layout_in, tables_in};
+ghost use Rattle.rank_machine.specs.Shown.{IsShowing};
+ghost use Rattle.rank_exec.specs.Taken.{AreReady, GroupsAlone, StepsDone};
 
 use crate::begins::{BeginAt, Begins, Begun};
 use crate::group_room::GroupRoom;
@@ -27,7 +24,7 @@ use kernel_model::types::KernelFault;
 use par_exec::{Crew, Gate, ItemGate};
 use rank_machine::machine::Machine;
 use rank_machine::steps::read_constants;
-use rank_program::{DistributedProgram, KernelJob, job, put_targets, run_tasks};
+use rank_program::{KernelJob, Runnable, job, put_targets, run_tasks};
 use schedule_steps::Step;
 use std::marker::Sync;
 use std::thread::Threads;
@@ -55,7 +52,7 @@ fn run_in_front<R: Threads + Sync, G: Gate + Sync>(
 // Behind them stands a 0 then, or a 1 where the run had a fault.
 fn run_all<R: Threads + Sync, G: Gate + Sync>(
     crew: &Crew<'_, R, G>,
-    program: &DistributedProgram<'_>,
+    program: &Runnable<'_>,
     group: &Begins<'_>,
     constants: &[i32],
     buffers: &mut GroupRoom,
@@ -164,25 +161,22 @@ fn is_end(step: Option<Step>, item: u32, rank: u32, place: u32) -> bool
 pub fn run_begins<R: Threads + Sync, G: Gate + Sync, S: Steps>(
     crew: &Crew<'_, R, G>,
     machine: &mut Machine,
-    program: &DistributedProgram<'_>,
+    program: &Runnable<'_>,
     room: &mut RunRoom,
     steps: &mut S,
     begin: BeginAt,
 ) -> Begun
-    requires sound { Sound program.now }
-    requires keeps { (k : ℕ) → KeepsIn program.now k }
     requires space { HasRunRoomOf program.now room.old }
-    requires shows { (f : Flat KernelFault) × Shows (setup_in program.now) (layout_in program.now) (tables_in program.now) machine.old f }
-    requires ready { ComeReady (setup_in program.now) (layout_in program.now) (tables_in program.now)
-        (Begin begin.item begin.rank begin.place ∷ S.left steps.old) machine.old }
-    requires alone { GroupsAreAlone (setup_in program.now) (layout_in program.now)
-        (Begin begin.item begin.rank begin.place ∷ S.left steps.old) }
+    requires shows { IsShowing program.now machine.old }
+    requires ready { AreReady program.now (Begin begin.item begin.rank begin.place ∷ S.left steps.old) machine.old }
+    requires alone { GroupsAlone program.now (Begin begin.item begin.rank begin.place ∷ S.left steps.old) }
     ensures done { (done : List Step)
         × (Begin begin.item begin.rank begin.place ∷ S.left steps.old ≡ done ++ behind result (S.left steps.new)) × (0 < length done)
-        × Done (setup_in program.now) (layout_in program.now) (tables_in program.now) done machine.old machine.new }
+        × StepsDone program.now done machine.old machine.new }
     ensures over { result ≡ Group None → S.left steps.new ≡ [] }
     ensures space { HasRunRoomOf program.now room.new }
 {
+    program.is_sound();
     rank_state::windows_are_counted::<KernelFault>();
     let BeginAt { item, rank, place } = begin;
     room.places.clear();

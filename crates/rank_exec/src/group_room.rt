@@ -1,6 +1,6 @@
 // What a group of begins needs.
 
-ghost use Rattle.std.specs.Prelude.{◌≡◌, ◌^◌, ◌<◌, ℕ, IfOk};
+ghost use Rattle.std.specs.Prelude.{◌^◌, ◌<◌, IfOk};
 ghost use Rattle.rank_exec.specs.Tasks.{HasGroupRoom};
 
 use rank_program::{Targets, Task};

@@ -2,38 +2,34 @@
 // these leave.
 
 ghost use Rattle.std.specs.Prelude.{◌≡◌, ◌<◌, ◌≤◌, ◌+◌, ℕ, pos, true, length, get_or};
-ghost use Rattle.kernel_model.specs.declared.types.faults.KernelFault.{KernelFault};
 ghost use Rattle.schedule_steps.specs.declared.step.Step.TheVariants.{Begin};
-ghost use Rattle.schedule_steps.specs.Steps.{IsStep};
 ghost use Rattle.schedule_model.specs.Layout.{by_place};
-ghost use Rattle.schedule_model.specs.Flat.{Flat, flat_step, flat_from};
 ghost use Rattle.rank_state.specs.Frames.{Shut, pane_at};
 ghost use Rattle.rank_state.specs.Groups.{begins, Distinct, Planned, AllShut};
-ghost use Rattle.rank_state.specs.Shows.{Shows};
 ghost use Rattle.rank_program.specs.Rooms.{HasRoomOf};
 ghost use Rattle.rank_program.specs.Jobs.{part, task_at};
 ghost use Rattle.rank_exec.specs.Tasks.{IsLoaded, IsRun, HasGroupRoom, KeepsGroupRoom};
-ghost use Rattle.rank_program.specs.Sound.{Sound, setup_in, layout_in, tables_in};
+ghost use Rattle.rank_program.specs.Sound.{setup_in, layout_in, tables_in, HasStep};
+ghost use Rattle.rank_machine.specs.Shown.{IsShowing, StepDone, AllDone};
 
 use crate::begins::{BeginAt, Begins};
 use crate::group_room::GroupRoom;
 use kernel_model::types::KernelFault;
 use rank_machine::machine::Machine;
 use rank_machine::steps::begin as begin_element;
-use rank_program::{DistributedProgram, Room, Task, original_at, push_element};
+use rank_program::{Room, Runnable, Task, original_at, push_element};
 
 // The task of a begin, with its element's windows in the window.
 fn load_one(
     machine: &Machine,
-    program: &DistributedProgram<'_>,
+    program: &Runnable<'_>,
     room: &mut Room,
     begin: BeginAt,
     window: &mut [i32],
 ) -> Task
-    requires sound { Sound program.now }
-    requires planned { IsStep (by_place (setup_in program.now) (layout_in program.now)) (Begin begin.item begin.rank begin.place) }
+    requires planned { HasStep program.now (Begin begin.item begin.rank begin.place) }
     requires space { HasRoomOf program.now room.old }
-    requires shows { (f : Flat KernelFault) × Shows (setup_in program.now) (layout_in program.now) (tables_in program.now) machine.now f }
+    requires shows { IsShowing program.now machine.now }
     requires wide { (tables_in program.now).stride ≤ length window.old }
     ensures loaded { IsLoaded (setup_in program.now) (layout_in program.now) (tables_in program.now)
         begin.item begin.rank begin.place machine.now result window.new }
@@ -60,15 +56,14 @@ fn load_one(
 // Adds the task of a begin to those of its group, with its element's windows in the next window of the buffer.
 fn load_next(
     machine: &Machine,
-    program: &DistributedProgram<'_>,
+    program: &Runnable<'_>,
     room: &mut Room,
     begin: BeginAt,
     buffers: &mut GroupRoom,
 )
-    requires sound { Sound program.now }
-    requires planned { IsStep (by_place (setup_in program.now) (layout_in program.now)) (Begin begin.item begin.rank begin.place) }
+    requires planned { HasStep program.now (Begin begin.item begin.rank begin.place) }
     requires space { HasRoomOf program.now room.old }
-    requires shows { (f : Flat KernelFault) × Shows (setup_in program.now) (layout_in program.now) (tables_in program.now) machine.now f }
+    requires shows { IsShowing program.now machine.now }
     requires buffers { HasGroupRoom (length buffers.old.tasks.items + 1) (tables_in program.now).stride program.now.locals buffers.old }
     ensures loaded { IsLoaded (setup_in program.now) (layout_in program.now) (tables_in program.now)
         begin.item begin.rank begin.place machine.now
@@ -96,16 +91,15 @@ fn load_next(
 /// Puts down the tasks of a group's begins in `buffers`, with their elements' windows in the windows of the buffer.
 pub fn load_all(
     machine: &Machine,
-    program: &DistributedProgram<'_>,
+    program: &Runnable<'_>,
     room: &mut Room,
     group: &Begins<'_>,
     buffers: &mut GroupRoom,
 )
-    requires sound { Sound program.now }
     requires planned { Planned (by_place (setup_in program.now) (layout_in program.now))
         group.now.item group.now.rank group.now.places.now }
     requires space { HasRoomOf program.now room.old }
-    requires shows { (f : Flat KernelFault) × Shows (setup_in program.now) (layout_in program.now) (tables_in program.now) machine.now f }
+    requires shows { IsShowing program.now machine.now }
     requires buffers { HasGroupRoom (length group.now.places.now) (tables_in program.now).stride program.now.locals buffers.old }
     ensures loaded { (i : ℕ) → i < length group.now.places.now
         → IsLoaded (setup_in program.now) (layout_in program.now) (tables_in program.now)
@@ -138,29 +132,27 @@ fn is_zero(window: &[i32], cell: usize) -> bool
 // A begin whose kernel has run on the window, on the first `cells` of its cells.
 fn open_one(
     machine: &mut Machine,
-    program: &DistributedProgram<'_>,
+    program: &Runnable<'_>,
     room: &mut Room,
     begin: BeginAt,
     cells: usize,
     window: &[i32],
 )
-    requires sound { Sound program.now }
-    requires planned { IsStep (by_place (setup_in program.now) (layout_in program.now)) (Begin begin.item begin.rank begin.place) }
+    requires planned { HasStep program.now (Begin begin.item begin.rank begin.place) }
     requires space { HasRoomOf program.now room.old }
-    requires shows { (f : Flat KernelFault) × Shows (setup_in program.now) (layout_in program.now) (tables_in program.now) machine.old f }
+    requires shows { IsShowing program.now machine.old }
     requires shut { pane_at machine.old.frames.panes begin.rank begin.place ≡ Shut }
     requires room { 0 < machine.old.frames.left }
     requires cells { cells < length window.now }
     requires narrow { cells ≤ (tables_in program.now).stride }
     requires ran { IsRun (setup_in program.now) (layout_in program.now) (tables_in program.now)
         begin.item begin.rank begin.place machine.old cells window.now }
-    ensures shows { (f : Flat KernelFault) → Shows (setup_in program.now) (layout_in program.now) (tables_in program.now) machine.old f
-        → Shows (setup_in program.now) (layout_in program.now) (tables_in program.now) machine.new
-        (flat_step (setup_in program.now) (layout_in program.now) (Begin begin.item begin.rank begin.place) f) }
+    ensures shows { StepDone program.now (Begin begin.item begin.rank begin.place) machine.old machine.new }
     ensures space { HasRoomOf program.now room.new }
     ensures mail { machine.new.mail.left ≡ machine.old.mail.left }
     ensures frames { machine.new.frames.left + 1 ≡ machine.old.frames.left }
 {
+    program.is_sound();
     rank_state::begin_shows::<KernelFault>();
     rank_state::steps_can::<KernelFault>();
     if is_zero(window, cells) {
@@ -173,16 +165,15 @@ fn open_one(
 /// The begins of a group whose kernels have run on the windows of the buffer, in their order.
 pub fn open_all(
     machine: &mut Machine,
-    program: &DistributedProgram<'_>,
+    program: &Runnable<'_>,
     room: &mut Room,
     group: &Begins<'_>,
     buffers: &GroupRoom,
 )
-    requires sound { Sound program.now }
     requires planned { Planned (by_place (setup_in program.now) (layout_in program.now))
         group.now.item group.now.rank group.now.places.now }
     requires space { HasRoomOf program.now room.old }
-    requires shows { (f : Flat KernelFault) × Shows (setup_in program.now) (layout_in program.now) (tables_in program.now) machine.old f }
+    requires shows { IsShowing program.now machine.old }
     requires shut { AllShut machine.old.frames.panes group.now.rank group.now.places.now }
     requires distinct { Distinct group.now.places.now }
     requires room { length group.now.places.now ≤ machine.old.frames.left }
@@ -194,9 +185,7 @@ pub fn open_all(
         → IsRun (setup_in program.now) (layout_in program.now) (tables_in program.now)
         group.now.item group.now.rank (get_or group.now.places.now i 0) machine.old
         (task_at buffers.now.tasks.items i).cells (part buffers.now.window i buffers.now.staging.items) }
-    ensures shows { (f : Flat KernelFault) → Shows (setup_in program.now) (layout_in program.now) (tables_in program.now) machine.old f
-        → Shows (setup_in program.now) (layout_in program.now) (tables_in program.now) machine.new
-        (flat_from (setup_in program.now) (layout_in program.now) (begins group.now.item group.now.rank group.now.places.now) f) }
+    ensures shows { AllDone program.now (begins group.now.item group.now.rank group.now.places.now) machine.old machine.new }
     ensures space { HasRoomOf program.now room.new }
     ensures mail { machine.new.mail.left ≡ machine.old.mail.left }
     ensures frames { machine.new.frames.left + length group.now.places.now ≡ machine.old.frames.left }

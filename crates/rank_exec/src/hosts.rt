@@ -1,25 +1,26 @@
 // Host statements: the statements of `main` that are no loop.
 
-ghost use Rattle.std.specs.Prelude.{◌≡◌, ◌≢◌, ◌<◌, ◌*◌, ◌+◌, ℕ, List, length, map, None, IfOk, OnOk};
+ghost use Rattle.std.specs.Prelude.{◌≡◌, ◌≢◌, ◌<◌, ◌*◌, ℕ, List, length, map, None, IfOk, OnOk};
 ghost use Rattle.kernel_model.specs.declared.types.faults.KernelFault.{KernelFault};
 ghost use Rattle.mesh_decl.specs.Mesh.{dat_count, dat_set, dat_dim, set_size};
 ghost use Rattle.schedule_steps.specs.declared.step.Step.TheVariants.{Join};
 ghost use Rattle.schedule_model.specs.Kept.{if_before};
-ghost use Rattle.schedule_model.specs.Flat.{Flat, owned, flat_step};
+ghost use Rattle.schedule_model.specs.Flat.{Flat, owned};
 ghost use Rattle.bound_program.specs.Values.{Host as HostItem, Print, told_act_of};
 ghost use Rattle.run_model.specs.Hosts.{dat_cells};
 ghost use Rattle.run_model.specs.Programs.{item_at};
-ghost use Rattle.rank_state.specs.Shows.{Shows};
 ghost use Rattle.rank_state.specs.Stops.{stop_in};
-ghost use Rattle.rank_exec.specs.Driving.{After, IsPrint, ItsCells};
-ghost use Rattle.rank_program.specs.Sound.{Sound, program_in, setup_in, layout_in, tables_in};
+ghost use Rattle.rank_exec.specs.Driving.{IsPrint, ItsCells};
+ghost use Rattle.rank_program.specs.Sound.{program_in, setup_in, layout_in};
+ghost use Rattle.rank_machine.specs.Shown.{ShowsState, IsShowing, StepDone};
+ghost use Rattle.rank_exec.specs.Taken.{StepEnds};
 
 use crate::standing::standing_cells;
 use bound_program::{Act, ToldAct};
 use kernel_model::types::KernelFault;
 use op_num::{OutOfMemory, Text};
 use rank_machine::machine::Machine;
-use rank_program::{DistributedProgram, owners_copy};
+use rank_program::{Runnable, owners_copy};
 use rank_state::rank_memory::stop::Stop;
 use run_model::gather::host_acts::Variables;
 use std::alloc::Global;
@@ -27,20 +28,20 @@ use std::alloc::Global;
 // Appends the values of an element of a dat, from its owner.
 fn push_element(
     machine: &Machine,
-    program: &DistributedProgram<'_>,
+    program: &Runnable<'_>,
     dat: u32,
     element: u32,
     values: &mut Vec<i32>,
 ) -> Result<(), OutOfMemory>
-    requires sound { Sound program.now }
     requires dat { dat < dat_count (program_in program.now).mesh }
     requires element { element < set_size (program_in program.now).mesh (dat_set (program_in program.now).mesh dat) }
-    requires shows { (f : Flat KernelFault) × Shows (setup_in program.now) (layout_in program.now) (tables_in program.now) machine.now f }
+    requires shows { IsShowing program.now machine.now }
     ensures { OnOk result ((f : Flat KernelFault)
-        → Shows (setup_in program.now) (layout_in program.now) (tables_in program.now) machine.now f
+        → ShowsState program.now machine.now f
         → ItsCells (program_in program.now) dat element (owned (setup_in program.now) (layout_in program.now) f)
         values.old.items values.new.items) }
 {
+    program.is_sound();
     rank_state::owners_show::<KernelFault>();
     machine.push_owned(owners_copy(program, dat, element), values)
 }
@@ -49,20 +50,19 @@ fn push_element(
 fn dat_values(
     alloc: Global,
     machine: &Machine,
-    program: &DistributedProgram<'_>,
+    program: &Runnable<'_>,
     dat: u32,
 ) -> Result<Vec<i32>, OutOfMemory>
-    requires sound { Sound program.now }
     requires dat { dat < dat_count (program_in program.now).mesh }
-    requires shows { (f : Flat KernelFault) × Shows (setup_in program.now) (layout_in program.now) (tables_in program.now) machine.now f }
+    requires shows { IsShowing program.now machine.now }
     ensures values { IfOk result
-        (λ v. (f : Flat KernelFault) → Shows (setup_in program.now) (layout_in program.now) (tables_in program.now) machine.now f
+        (λ v. (f : Flat KernelFault) → ShowsState program.now machine.now f
         → v.items ≡ map (owned (setup_in program.now) (layout_in program.now) f) (dat_cells (program_in program.now) dat)) }
     ensures count { IfOk result (λ v. length v.items
         ≡ set_size (program_in program.now).mesh (dat_set (program_in program.now).mesh dat)
         * dat_dim (program_in program.now).mesh dat) }
 {
-    let mesh = &program.bound.mesh;
+    let mesh = &program.parts().bound.mesh;
     mesh.dat_count();
     let (set, _) = mesh.dat_shape(dat);
     let mut values = Vec::new(alloc);
@@ -76,26 +76,23 @@ fn dat_values(
 fn run_print(
     alloc: Global,
     machine: &mut Machine,
-    program: &DistributedProgram<'_>,
+    program: &Runnable<'_>,
     item: u32,
     dat: u32,
     file: &Text,
 ) -> Result<(), OutOfMemory>
-    requires sound { Sound program.now }
     requires is { IsPrint (program_in program.now) item dat file.now }
-    requires shows { (f : Flat KernelFault) × Shows (setup_in program.now) (layout_in program.now) (tables_in program.now) machine.old f }
+    requires shows { IsShowing program.now machine.old }
     requires going { if_before item machine.old.fault ≡ None }
-    ensures after { OnOk result ((f : Flat KernelFault)
-        → Shows (setup_in program.now) (layout_in program.now) (tables_in program.now) machine.old f
-        → Shows (setup_in program.now) (layout_in program.now) (tables_in program.now) machine.new
-        (flat_step (setup_in program.now) (layout_in program.now) (Join item) f)) }
+    ensures after { OnOk result (StepDone program.now (Join item) machine.old machine.new) }
     ensures mail { machine.new.mail.left ≡ machine.old.mail.left }
     ensures frames { machine.new.frames.left ≡ machine.old.frames.left }
 {
+    program.is_sound();
     rank_state::join_shows::<KernelFault>();
     rank_state::owners_show::<KernelFault>();
     run_model::items_are_there();
-    let mesh = &program.bound.mesh;
+    let mesh = &program.parts().bound.mesh;
     if let Some(cells) = standing_cells(program, dat) {
         return machine.print_owned(file, mesh, dat, cells);
     }
@@ -107,27 +104,25 @@ fn run_print(
 fn run_plain(
     alloc: Global,
     machine: &mut Machine,
-    program: &DistributedProgram<'_>,
+    program: &Runnable<'_>,
     item: u32,
     act: &ToldAct,
 ) -> Result<Option<Stop>, OutOfMemory>
-    requires sound { Sound program.now }
     requires is { item_at (program_in program.now) item ≡ HostItem (told_act_of act.now) }
     requires plain { (d : ℕ) (file : List ℕ) → told_act_of act.now ≢ Print d file }
-    requires shows { (f : Flat KernelFault) × Shows (setup_in program.now) (layout_in program.now) (tables_in program.now) machine.old f }
+    requires shows { IsShowing program.now machine.old }
     requires going { if_before item machine.old.fault ≡ None }
     ensures after { IfOk result
-        (λ stop. (f : Flat KernelFault) → Shows (setup_in program.now) (layout_in program.now) (tables_in program.now) machine.old f
-        → After (setup_in program.now) (layout_in program.now) (tables_in program.now) (stop_in stop) machine.new
-        (flat_step (setup_in program.now) (layout_in program.now) (Join item) f)) }
+        (λ stop. StepEnds program.now (Join item) (stop_in stop) machine.old machine.new) }
     ensures mail { machine.new.mail.left ≡ machine.old.mail.left }
     ensures frames { machine.new.frames.left ≡ machine.old.frames.left }
 {
+    program.is_sound();
     rank_state::join_shows::<KernelFault>();
     rank_state::owners_show::<KernelFault>();
     run_model::gather::host_acts::variables_hold();
     run_model::items_are_there();
-    let bound = program.bound;
+    let bound = program.parts().bound;
     let known = Variables {
         vars: &bound.vars,
         starts: program.starts(),
@@ -146,18 +141,15 @@ fn run_plain(
 pub fn run_host(
     alloc: Global,
     machine: &mut Machine,
-    program: &DistributedProgram<'_>,
+    program: &Runnable<'_>,
     item: u32,
     act: &ToldAct,
 ) -> Result<Option<Stop>, OutOfMemory>
-    requires sound { Sound program.now }
     requires is { item_at (program_in program.now) item ≡ HostItem (told_act_of act.now) }
-    requires shows { (f : Flat KernelFault) × Shows (setup_in program.now) (layout_in program.now) (tables_in program.now) machine.old f }
+    requires shows { IsShowing program.now machine.old }
     requires going { if_before item machine.old.fault ≡ None }
     ensures after { IfOk result
-        (λ stop. (f : Flat KernelFault) → Shows (setup_in program.now) (layout_in program.now) (tables_in program.now) machine.old f
-        → After (setup_in program.now) (layout_in program.now) (tables_in program.now) (stop_in stop) machine.new
-        (flat_step (setup_in program.now) (layout_in program.now) (Join item) f)) }
+        (λ stop. StepEnds program.now (Join item) (stop_in stop) machine.old machine.new) }
     ensures mail { machine.new.mail.left ≡ machine.old.mail.left }
     ensures frames { machine.new.frames.left ≡ machine.old.frames.left }
 {

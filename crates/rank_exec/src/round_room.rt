@@ -2,13 +2,12 @@
 
 ghost use Rattle.std.specs.Prelude.{◌≡◌, ℕ, [], All, IfOk, length};
 ghost use Rattle.rank_program.specs.Rooms.{HasRoomOf};
-ghost use Rattle.rank_program.specs.Sound.{Sound};
 ghost use Rattle.rank_machine.specs.OnRanks.{places_on};
 
 use kernel_code::Code;
 use kernel_runs::worker_batches::BatchesRoom;
 use rank_machine::ranks::RankPart;
-use rank_program::{DistributedProgram, MOST_ARGS, MOST_COLUMNS, Room, runs_in_batches};
+use rank_program::{MOST_ARGS, MOST_COLUMNS, Room, Runnable, runs_in_batches};
 use std::alloc::{AllocError, Global};
 
 /// For each rank a list of places, and what elements are lent of it; for no rank where none come in rounds.
@@ -38,27 +37,21 @@ fn most_slots(codes: &[Code<'_>]) -> usize {
 // Room for a step, and on a rank that has several workers to itself for the batches that they run at once.
 fn room_for(
     alloc: Global,
-    program: &DistributedProgram<'_>,
+    program: &Runnable<'_>,
     rank: u32,
     several: bool,
 ) -> Result<Room, AllocError>
-    requires { Sound program.now }
     ensures { IfOk result (HasRoomOf program.now) }
 {
     let mut room = Room::new(alloc, program)?;
     if several {
-        let places = program
-            .tables
-            .places
-            .get(rank as usize)
-            .copied()
-            .unwrap_or(0);
+        let places = program.places().get(rank as usize).copied().unwrap_or(0);
         room.kernels.batches = BatchesRoom::new(
             alloc,
             BATCH_BYTES,
             MOST_ARGS,
-            program.tables.stride.min(MOST_COLUMNS),
-            most_slots(program.codes),
+            program.stride().min(MOST_COLUMNS),
+            most_slots(program.parts().codes),
             places,
         )?;
     }
@@ -69,11 +62,10 @@ impl RoundRoom {
     /// Room for so many ranks and workers.
     pub fn new(
         alloc: Global,
-        program: &DistributedProgram<'_>,
+        program: &Runnable<'_>,
         ranks: u32,
         workers: u32,
     ) -> Result<RoundRoom, AllocError>
-        requires { Sound program.now }
         ensures { IfOk result (λ room. All (λ x. HasRoomOf program.now x.room) room.parts.items) }
     {
         let mut lists = Vec::with_capacity(alloc, ranks as usize)?;

@@ -1,19 +1,15 @@
 // Rounds: the elements of an item on all ranks, of which each rank's run one after another, and the ranks are shared
 // out among workers.
 
-ghost use Rattle.std.specs.Prelude.{◌≡◌, ◌<◌, ◌++◌, ◌^◌, ℕ, List, All, IfOk, IfSome, OnOk, length};
-ghost use Rattle.kernel_model.specs.declared.types.faults.KernelFault.{KernelFault};
+ghost use Rattle.std.specs.Prelude.{◌≡◌, ◌<◌, ◌++◌, ◌^◌, List, All, IfOk, IfSome, OnOk, length};
 ghost use Rattle.schedule_steps.specs.declared.step.Step.{Step};
-ghost use Rattle.rank_exec.specs.Closed.{GroupsAreAlone};
-ghost use Rattle.schedule_model.specs.Flat.{Flat};
 ghost use Rattle.rank_state.specs.Indices.{values_at};
-ghost use Rattle.rank_state.specs.Shows.{Shows};
 ghost use Rattle.rank_program.specs.Rooms.{HasRoomOf};
 ghost use Rattle.rank_exec.specs.RunRooms.{HasRunRoomOf};
-ghost use Rattle.rank_exec.specs.Driving.{Done, ComeReady};
 ghost use Rattle.rank_exec.specs.Rounds.{elements, told};
-ghost use Rattle.rank_program.specs.Sound.{Sound, setup_in, layout_in, tables_in};
-ghost use Rattle.rank_program.specs.Keeping.{KeepsIn};
+ghost use Rattle.rank_program.specs.Sound.{tables_in};
+ghost use Rattle.rank_machine.specs.Shown.{IsShowing};
+ghost use Rattle.rank_exec.specs.Taken.{AreReady, GroupsAlone, StepsDone};
 
 use crate::gathering::gather;
 use crate::laws::{ranks_come_in_turn, shares_are_set};
@@ -27,14 +23,13 @@ use par_exec::{Crew, Gate};
 use rank_machine::machine::Machine;
 use rank_machine::ranks::RankPart;
 use rank_machine::steps::read_constants;
-use rank_program::DistributedProgram;
+use rank_program::Runnable;
 use std::marker::Sync;
 use std::thread::Threads;
 
 // Copies the values of all constants for each rank.
-fn read_all(machine: &Machine, program: &DistributedProgram<'_>, parts: &mut [RankPart])
-    requires sound { Sound program.now }
-    requires shows { (f : Flat KernelFault) × Shows (setup_in program.now) (layout_in program.now) (tables_in program.now) machine.now f }
+fn read_all(machine: &Machine, program: &Runnable<'_>, parts: &mut [RankPart])
+    requires shows { IsShowing program.now machine.now }
     requires space { All (λ x. HasRoomOf program.now x.room) parts.old }
     ensures constants { All (λ x. x.room.constants.items ≡ values_at machine.now.variables (tables_in program.now).constants) parts.new }
     ensures space { All (λ x. HasRoomOf program.now x.room) parts.new }
@@ -56,19 +51,15 @@ fn read_all(machine: &Machine, program: &DistributedProgram<'_>, parts: &mut [Ra
 pub fn run_round<R: Threads + Sync, G: Gate + Sync, S: Steps>(
     crew: &Crew<'_, R, G>,
     machine: &mut Machine,
-    program: &DistributedProgram<'_>,
+    program: &Runnable<'_>,
     room: &mut RunRoom,
     steps: &mut S,
     of: Told,
 ) -> Result<Option<Told>, OutOfMemory>
-    requires sound { Sound program.now }
-    requires keeps { (k : ℕ) → KeepsIn program.now k }
     requires space { HasRunRoomOf program.now room.old }
-    requires shows { (f : Flat KernelFault) × Shows (setup_in program.now) (layout_in program.now) (tables_in program.now) machine.old f }
-    requires ready { ComeReady (setup_in program.now) (layout_in program.now) (tables_in program.now)
-        (elements of.alone of.item of.rank room.old.places.items ++ S.left steps.old) machine.old }
-    requires alone { GroupsAreAlone (setup_in program.now) (layout_in program.now)
-        (elements of.alone of.item of.rank room.old.places.items ++ S.left steps.old) }
+    requires shows { IsShowing program.now machine.old }
+    requires ready { AreReady program.now (elements of.alone of.item of.rank room.old.places.items ++ S.left steps.old) machine.old }
+    requires alone { GroupsAlone program.now (elements of.alone of.item of.rank room.old.places.items ++ S.left steps.old) }
     requires some { 0 < length room.old.places.items }
     requires rank { of.rank < length room.old.round.lists.items }
     requires listed { length room.old.round.lists.items ≡ length room.old.round.parts.items }
@@ -77,7 +68,7 @@ pub fn run_round<R: Threads + Sync, G: Gate + Sync, S: Steps>(
     ensures done { IfOk result (λ next. (done : List Step)
         × (elements of.alone of.item of.rank room.old.places.items ++ S.left steps.old
         ≡ done ++ (told next room.new.places.items ++ S.left steps.new)) × (0 < length done)
-        × Done (setup_in program.now) (layout_in program.now) (tables_in program.now) done machine.old machine.new) }
+        × StepsDone program.now done machine.old machine.new) }
     ensures suffix { (front : List Step)
         × (elements of.alone of.item of.rank room.old.places.items ++ S.left steps.old ≡ front ++ S.left steps.new) }
     ensures more { IfOk result (λ next. IfSome next (λ x. 0 < length room.new.places.items)) }
@@ -85,6 +76,7 @@ pub fn run_round<R: Threads + Sync, G: Gate + Sync, S: Steps>(
     ensures lists { OnOk result (length room.new.round.lists.items ≡ length room.old.round.lists.items) }
     ensures parts { OnOk result (length room.new.round.parts.items ≡ length room.old.round.parts.items) }
 {
+    program.is_sound();
     crate::closed_groups::several_are_alone::<KernelFault>();
     crate::closed_groups::places_stay_shut::<KernelFault>();
     rank_state::in_place_shows::<KernelFault>();

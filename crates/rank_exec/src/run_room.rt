@@ -2,11 +2,10 @@
 
 ghost use Rattle.std.specs.Prelude.{IfOk};
 ghost use Rattle.rank_exec.specs.RunRooms.{HasRunRoomOf};
-ghost use Rattle.rank_program.specs.Sound.{Sound};
 
 use crate::group_room::GroupRoom;
 use crate::round_room::RoundRoom;
-use rank_program::{DistributedProgram, Room};
+use rank_program::{Room, Runnable};
 use std::alloc::{AllocError, Global};
 
 /// How many begins are done as one group at most.
@@ -25,20 +24,15 @@ pub struct RunRoom {
 impl RunRoom {
     /// As much room as any list of steps needs, whatever its length. Where one worker runs the program, there is none
     /// for rounds.
-    pub fn new(
-        alloc: Global,
-        program: &DistributedProgram<'_>,
-        workers: u32,
-    ) -> Result<RunRoom, AllocError>
-        requires { Sound program.now }
+    pub fn new(alloc: Global, program: &Runnable<'_>, workers: u32) -> Result<RunRoom, AllocError>
         ensures { IfOk result (HasRunRoomOf program.now) }
     {
-        let ranks = program.owners.ranks;
+        let ranks = program.parts().owners.ranks;
         let rounds = if workers > 1 { ranks } else { 0 };
         Ok(RunRoom {
             step: Room::new(alloc, program)?,
             places: Vec::with_capacity(alloc, MOST_BEGINS)?,
-            group: GroupRoom::new(alloc, MOST_BEGINS, program.stride(), program.locals)?,
+            group: GroupRoom::new(alloc, MOST_BEGINS, program.stride(), program.parts().locals)?,
             round: RoundRoom::new(alloc, program, rounds, workers)?,
         })
     }

@@ -5,7 +5,7 @@ ghost use Rattle.std.specs.Prelude.{◌<◌};
 use crate::under_way::item_of;
 use bound_program::Item;
 use kernel_code::Part;
-use rank_program::{DistributedProgram, KernelJob, comes_in_batches};
+use rank_program::{KernelJob, Runnable, comes_in_batches};
 use schedule_steps::Step;
 
 // As many operations as threads are worth: starting them takes as long as some thousands.
@@ -50,7 +50,8 @@ pub fn workers_for(job: &KernelJob<'_>, place: u32, workers: u32) -> u32
 }
 
 // About how many operations the kernel of a Free item has; 0 where the item is none.
-fn operations_in(program: &DistributedProgram<'_>, item: u32) -> usize {
+fn operations_in(program: &Runnable<'_>, item: u32) -> usize {
+    let program = program.parts();
     let Some(Item::Free { site }) = program.bound.trace.get(item as usize) else {
         return 0;
     };
@@ -64,42 +65,36 @@ fn operations_in(program: &DistributedProgram<'_>, item: u32) -> usize {
 }
 
 // Whether the kernel of a Free item is so short that not even a full group of its elements is worth threads.
-fn is_short(program: &DistributedProgram<'_>, item: u32) -> bool {
+fn is_short(program: &Runnable<'_>, item: u32) -> bool {
     operations_in(program, item).saturating_mul(FULL_GROUP) < WORTH_THREADS
 }
 
 /// Whether the elements of a Free item come in rounds, where each rank's run in place: there are as many ranks as
 /// `workers` at least, or their kernel is short, or it isn't and they run in batches, which several workers share out on
 /// a rank.
-pub fn come_in_rounds(program: &DistributedProgram<'_>, item: u32, workers: u32) -> bool {
-    workers <= program.owners.ranks || is_short(program, item) || comes_in_batches(program, item)
+pub fn come_in_rounds(program: &Runnable<'_>, item: u32, workers: u32) -> bool {
+    workers <= program.parts().owners.ranks
+        || is_short(program, item)
+        || comes_in_batches(program, item)
 }
 
 /// Whether elements that come behind this step may come in rounds: those of the same item would.
-pub fn may_come_in_rounds(program: &DistributedProgram<'_>, before: Step, workers: u32) -> bool {
+pub fn may_come_in_rounds(program: &Runnable<'_>, before: Step, workers: u32) -> bool {
     match before {
         Step::Join { .. } => true,
         _ => come_in_rounds(program, item_of(before), workers),
     }
 }
 
-/// Whether closed groups that come behind this step run in place, where they come in no rounds: it is the end of an
-/// element whose kernel is short, or of any where a single worker runs all kernels.
-pub fn groups_run_in_place(program: &DistributedProgram<'_>, before: Step, workers: u32) -> bool {
-    match before {
-        Step::End { item, .. } => workers == 1 || is_short(program, item),
-        _ => false,
-    }
+/// Whether closed groups that come after this step run in place, where they come in no rounds: it is the end of an
+/// element, and a single worker runs all kernels.
+pub fn groups_run_in_place(before: Step, workers: u32) -> bool {
+    workers == 1 && matches!(before, Step::End { .. })
 }
 
 /// How many of the `workers` run a round with these places by rank: where its kernels have many operations together, all
 /// of them, but no more than there are ranks where the kernel is short; else one.
-pub fn workers_for_round(
-    program: &DistributedProgram<'_>,
-    item: u32,
-    lists: &[Vec<u32>],
-    workers: u32,
-) -> u32
+pub fn workers_for_round(program: &Runnable<'_>, item: u32, lists: &[Vec<u32>], workers: u32) -> u32
     requires { 0 < workers }
     ensures { 0 < result }
 {
@@ -111,7 +106,7 @@ pub fn workers_for_round(
         return 1;
     }
     if is_short(program, item) {
-        return workers.min(program.owners.ranks).max(1);
+        return workers.min(program.parts().owners.ranks).max(1);
     }
     workers
 }

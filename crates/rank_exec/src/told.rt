@@ -1,22 +1,17 @@
 // Elements that a stream told, in place.
 
 ghost use Rattle.std.specs.Prelude.{◌<◌, length};
-ghost use Rattle.kernel_model.specs.declared.types.faults.KernelFault.{KernelFault};
-ghost use Rattle.rank_exec.specs.Closed.{GroupsAreAlone};
-ghost use Rattle.schedule_model.specs.Flat.{Flat};
-ghost use Rattle.rank_state.specs.Shows.{Shows};
 ghost use Rattle.rank_program.specs.Rooms.{HasRoomOf};
-ghost use Rattle.rank_exec.specs.Driving.{Done, ComeReady};
 ghost use Rattle.rank_exec.specs.Rounds.{elements};
-ghost use Rattle.rank_program.specs.Sound.{Sound, setup_in, layout_in, tables_in};
-ghost use Rattle.rank_program.specs.Keeping.{KeepsIn};
+ghost use Rattle.rank_machine.specs.Shown.{IsShowing};
+ghost use Rattle.rank_exec.specs.Taken.{AreReady, GroupsAlone, StepsDone};
 
 use crate::stream::Told;
 use kernel_model::types::KernelFault;
 use par_exec::{Crew, Gate, ItemGate};
 use rank_machine::machine::Machine;
 use rank_machine::steps::read_constants;
-use rank_program::{DistributedProgram, Room};
+use rank_program::{Room, Runnable};
 use std::marker::Sync;
 use std::thread::Threads;
 
@@ -39,23 +34,20 @@ fn tell_end<G: Gate>(gate: &G, of: Told, places: &[u32]) {
 pub fn run_told<R: Threads + Sync, G: Gate + Sync>(
     crew: &Crew<'_, R, G>,
     machine: &mut Machine,
-    program: &DistributedProgram<'_>,
+    program: &Runnable<'_>,
     room: &mut Room,
     of: Told,
     places: &[u32],
 )
-    requires sound { Sound program.now }
-    requires keeps { KeepsIn program.now of.item }
     requires space { HasRoomOf program.now room.old }
-    requires shows { (f : Flat KernelFault) × Shows (setup_in program.now) (layout_in program.now) (tables_in program.now) machine.old f }
+    requires shows { IsShowing program.now machine.old }
     requires some { 0 < length places.now }
-    requires ready { ComeReady (setup_in program.now) (layout_in program.now) (tables_in program.now)
-        (elements of.alone of.item of.rank places.now) machine.old }
-    requires alone { GroupsAreAlone (setup_in program.now) (layout_in program.now) (elements of.alone of.item of.rank places.now) }
-    ensures done { Done (setup_in program.now) (layout_in program.now) (tables_in program.now)
-        (elements of.alone of.item of.rank places.now) machine.old machine.new }
+    requires ready { AreReady program.now (elements of.alone of.item of.rank places.now) machine.old }
+    requires alone { GroupsAlone program.now (elements of.alone of.item of.rank places.now) }
+    ensures done { StepsDone program.now (elements of.alone of.item of.rank places.now) machine.old machine.new }
     ensures space { HasRoomOf program.now room.new }
 {
+    program.is_sound();
     crate::closed_groups::places_stay_shut::<KernelFault>();
     rank_state::in_place_shows::<KernelFault>();
     read_constants(machine, program, &mut room.constants);

@@ -3,12 +3,12 @@
 ghost use Rattle.std.specs.Prelude.{◌≡◌, ◌≤◌, List, IfOk, IfErr};
 ghost use Rattle.schedule_steps.specs.declared.step.Step.{Step as StepValue};
 ghost use Rattle.schedule_steps.specs.Steps.{Accepted};
-ghost use Rattle.schedule_steps.specs.Standard as the;
 ghost use Rattle.schedule_steps.specs.Drawn.{IsDrawn};
 ghost use Rattle.bound_program.specs.Values.{bound_of};
 ghost use Rattle.loop_plan.specs.Planned.{outline_of};
 ghost use Rattle.schedule_check.specs.Whole.{IsWhole, IsUnaccepted};
 ghost use Rattle.rank_exec.specs.Orders.{InOrder, CanTake, message_cells_of};
+ghost use Rattle.schedule_steps.specs.Standard as the;
 
 use loop_plan::planned_program::Planned;
 use op_num::OutOfMemory;

@@ -2,16 +2,16 @@
 ghost use Rattle.std.specs.Prelude.{◌≡◌, ◌<◌, ◌≤◌, ◌+◌, ℕ, true, min, IfOk, length, slice_index, vec_capacity};
 ghost use Rattle.schedule_steps.specs.declared.step.Step.TheVariants.{Send};
 ghost use Rattle.schedule_steps.specs.Steps.{IsStep};
-ghost use Rattle.schedule_steps.specs.Standard as the;
 ghost use Rattle.schedule_model.specs.Layout.{message_cells};
 ghost use Rattle.rank_state.specs.Spans.{total};
 ghost use Rattle.rank_exec.specs.Driving.{FitsPeak};
-ghost use Rattle.rank_program.specs.Sound.{Sound, layout_in, outline_in};
+ghost use Rattle.rank_program.specs.Sound.{layout_in, outline_in};
 ghost use Rattle.rank_exec.specs.Room.{cells_sent, item_cells};
+ghost use Rattle.schedule_steps.specs.Standard as the;
 
 use crate::planned_run::peaks::standard_has_room;
 use op_num::OutOfMemory;
-use rank_program::{DistributedProgram, push_sent};
+use rank_program::{Runnable, push_sent};
 use rank_state::Span;
 use schedule_check::plan_orders::PlanShape;
 use schedule_steps::Peak;
@@ -41,18 +41,18 @@ fn cells_of(spans: &[Span]) -> Result<u64, OutOfMemory>
 
 // How many cells a message has; `spans` is lent for them. An error is want of memory.
 fn cells_in_message(
-    program: &DistributedProgram<'_>,
+    program: &Runnable<'_>,
     item: u32,
     from: u32,
     to: u32,
     spans: &mut Vec<Span>,
 ) -> Result<u64, OutOfMemory>
-    requires sound { Sound program.now }
     requires step { IsStep (outline_in program.now) (Send item from to) }
     requires room { program.now.tables.spans ≤ vec_capacity spans.old }
     ensures cells { IfOk result (λ n. n ≡ message_cells (layout_in program.now) item from to) }
     ensures room { vec_capacity spans.new ≡ vec_capacity spans.old }
 {
+    program.is_sound();
     schedule_steps::standard_is_accepted();
     bound_plan::plans_are_by_place();
     spans.clear();
@@ -63,13 +63,12 @@ fn cells_in_message(
 
 // How many cells the messages have that a rank sends in an item. An error is want of memory.
 fn cells_from<'s>(
-    program: &DistributedProgram<'_>,
+    program: &Runnable<'_>,
     shape: &PlanShape<'s>,
     item: u32,
     from: u32,
     spans: &mut Vec<Span>,
 ) -> Result<u64, OutOfMemory>
-    requires sound { Sound program.now }
     requires shape { ⟦<PlanShape<'s> as Shape>⟧.outline shape.now ≡ outline_in program.now }
     requires item { item < (outline_in program.now).items }
     requires free { (outline_in program.now).is_free item ≡ true }
@@ -89,12 +88,11 @@ fn cells_from<'s>(
 
 // How many cells the messages of an item have. An error is want of memory.
 fn cells_in_item<'s>(
-    program: &DistributedProgram<'_>,
+    program: &Runnable<'_>,
     shape: &PlanShape<'s>,
     item: u32,
     spans: &mut Vec<Span>,
 ) -> Result<u64, OutOfMemory>
-    requires sound { Sound program.now }
     requires shape { ⟦<PlanShape<'s> as Shape>⟧.outline shape.now ≡ outline_in program.now }
     requires item { item < (outline_in program.now).items }
     requires free { (outline_in program.now).is_free item ≡ true }
@@ -112,11 +110,10 @@ fn cells_in_item<'s>(
 
 // A number that no item's messages have more cells than. An error is want of memory.
 fn most_cells<'s>(
-    program: &DistributedProgram<'_>,
+    program: &Runnable<'_>,
     shape: &PlanShape<'s>,
     spans: &mut Vec<Span>,
 ) -> Result<u64, OutOfMemory>
-    requires sound { Sound program.now }
     requires shape { ⟦<PlanShape<'s> as Shape>⟧.outline shape.now ≡ outline_in program.now }
     requires room { program.now.tables.spans ≤ vec_capacity spans.old }
     ensures { IfOk result (λ n. (k : ℕ) → k < (outline_in program.now).items → (outline_in program.now).is_free k ≡ true
@@ -152,18 +149,19 @@ fn most_open(places: &[usize], group: u32) -> u32
 /// Want of memory alone, also where 64 bits can't count the cells of an item's messages.
 pub fn standard_room<'s>(
     alloc: Global,
-    program: &DistributedProgram<'_>,
+    program: &Runnable<'_>,
     shape: &PlanShape<'s>,
     group: u32,
 ) -> Result<Peak, OutOfMemory>
-    requires sound { Sound program.now }
     requires shape { ⟦<PlanShape<'s> as Shape>⟧.outline shape.now ≡ outline_in program.now }
     requires group { 1 ≤ group }
     ensures { IfOk result (λ k. FitsPeak (layout_in program.now) k.frames k.mail (the.standard (outline_in program.now) group)) }
 {
+    program.is_sound();
     standard_has_room();
-    let mut spans = Vec::with_capacity(alloc, program.tables.spans)?;
-    let frames = most_open(&program.tables.places, group);
+    let tables = &program.parts().tables;
+    let mut spans = Vec::with_capacity(alloc, tables.spans)?;
+    let frames = most_open(&tables.places, group);
     let mail = most_cells(program, shape, &mut spans)?;
     Ok(Peak { frames, mail })
 }

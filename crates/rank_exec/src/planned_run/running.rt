@@ -5,7 +5,6 @@ ghost use Rattle.local_mesh.specs.declared.halo_lists.types.Halos.{Halos as TheH
 ghost use Rattle.schedule_steps.specs.declared.step.Step.{Step};
 ghost use Rattle.schedule_steps.specs.Steps.{Accepted};
 ghost use Rattle.schedule_steps.specs.Peaks.{IsPeak};
-ghost use Rattle.schedule_steps.specs.Standard as the;
 ghost use Rattle.bound_program.specs.Values.{bound_of};
 ghost use Rattle.bound_program.specs.Fits.{Fits};
 ghost use Rattle.run_model.specs.Ranges.{AllObey, StartsInRange};
@@ -17,6 +16,7 @@ ghost use Rattle.schedule_check.specs.Mail.{plan_cells};
 ghost use Rattle.rank_exec.specs.Runs.{IsRunBy};
 ghost use Rattle.loop_plan.specs.Planned.{outline_of};
 ghost use Rattle.rank_exec.specs.Orders.{InOrder, CanTake, message_cells_of, planned_dump};
+ghost use Rattle.schedule_steps.specs.Standard as the;
 
 use crate::planned_run::orders::Order;
 use crate::planned_run::peaks::peaks_are_room;
@@ -29,7 +29,7 @@ use loop_plan::Plan;
 use loop_plan::planned_program::Planned;
 use op_num::OutOfMemory;
 use par_exec::{Crew, Gate};
-use rank_program::DistributedProgram;
+use rank_program::Runnable;
 use schedule_check::plan_orders::{PlanShape, standard_order};
 use schedule_check::{Checker, take_all};
 use schedule_steps::Peak;
@@ -69,7 +69,7 @@ const MOST_HELD: usize = 2049;
 // that come in rounds, so that each rank's first group is told too. An error is want of memory.
 fn standard_ahead<'s>(
     alloc: Global,
-    program: &DistributedProgram<'_>,
+    program: &Runnable<'_>,
     shape: &'s PlanShape<'s>,
     workers: u32,
 ) -> Result<Ahead<Standard<'s, PlanShape<'s>>>, OutOfMemory>
@@ -117,26 +117,22 @@ pub fn run_on_ranks<R: Threads + Sync, G: Gate + Sync>(
     let (halos, meshes) = (&found.halos, found.ranks.as_slice());
     let lists = local_lists(alloc, &bound.mesh, &found.owners, halos, meshes)?;
     let codes = compile_all(alloc, &bound.kernels)?;
-    let program = DistributedProgram::new(alloc, planned, &lists, &codes, true)?;
+    let program = Runnable::new(alloc, planned, &lists, &codes)?;
+    program.is_sound();
+    let parts = program.parts();
     match order {
         Order::Standard { group } => {
-            let shape = PlanShape::new(alloc, program.bound, program.meshes, program.plan, *group)?;
+            let shape = PlanShape::new(alloc, parts.bound, parts.meshes, parts.plan, *group)?;
             let room = standard_room(alloc, &program, &shape, *group)?;
             let mut steps = standard_ahead(alloc, &program, &shape, crew.workers)?;
             let outcome = run_planned(crew, &program, room, &mut steps, dumps)?;
             Ok(outcome)
         }
         Order::Drawn { group, seed } => {
-            let shape = PlanShape::new(alloc, program.bound, program.meshes, program.plan, *group)?;
+            let shape = PlanShape::new(alloc, parts.bound, parts.meshes, parts.plan, *group)?;
             let mut steps = DrawnOrder::new(alloc, &shape, *seed)?;
             let mut again = DrawnOrder::new(alloc, &shape, *seed)?;
-            let peak = peak_of(
-                alloc,
-                program.bound,
-                program.meshes,
-                program.plan,
-                &mut steps,
-            )?;
+            let peak = peak_of(alloc, parts.bound, parts.meshes, parts.plan, &mut steps)?;
             let outcome = run_planned(crew, &program, peak, &mut again, dumps)?;
             Ok(outcome)
         }

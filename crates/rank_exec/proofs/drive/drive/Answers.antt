@@ -111,7 +111,7 @@ run_behind-requires-clause-alone g c κs within =
     groups_after (setup_in c.args.program.now) (layout_in c.args.program.now) (g.S.Steps.left c.args.steps.now) taken.front
     (g.S.Steps.left c.run_begins.new.steps)
     (c.closed_groups_are_alone.ensures (setup_in c.args.program.now) c.requires.coloured (layout_in c.args.program.now)
-    c.requires.sound.layout (g.S.Steps.left c.args.steps.now) c.requires.accepted) taken.split
+    c.is_sound.ensures.layout (g.S.Steps.left c.args.steps.now) c.requires.accepted) taken.split
   where
     r : Reached (setup_in c.args.program.now) (layout_in c.args.program.now) (tables_in c.args.program.now)
         (g.S.Steps.left c.args.steps.now) (Begin c.in-Begin.item c.in-Begin.rank c.in-Begin.place ∷ g.S.Steps.left c.loop-next.steps)
@@ -204,7 +204,7 @@ run_begins-requires-clause-alone g c κs within =
     groups_after (setup_in c.args.program.now) (layout_in c.args.program.now) (g.S.Steps.left c.args.steps.now) r.front
     (Begin c.in-Begin.item c.in-Begin.rank c.in-Begin.place ∷ g.S.Steps.left c.loop-next.steps)
     (c.closed_groups_are_alone.ensures (setup_in c.args.program.now) c.requires.coloured (layout_in c.args.program.now)
-    c.requires.sound.layout (g.S.Steps.left c.args.steps.now) c.requires.accepted) r.split
+    c.is_sound.ensures.layout (g.S.Steps.left c.args.steps.now) c.requires.accepted) r.split
   where
     r : Reached (setup_in c.args.program.now) (layout_in c.args.program.now) (tables_in c.args.program.now)
         (g.S.Steps.left c.args.steps.now) (Begin c.in-Begin.item c.in-Begin.rank c.in-Begin.place ∷ g.S.Steps.left c.loop-next.steps)
@@ -273,7 +273,7 @@ returns-in-Some-2-clause-same g c =
     (sequential (setup_in c.args.program.now).program) (Some (stop_of c.in-Some-2.stop)) c.take.new.machine
     (flat_from (setup_in c.args.program.now) (layout_in c.args.program.now) (g.S.Steps.left c.args.steps.now) c.requires.starts.0)
     (c.flat_runs_as_sequential.ensures (setup_in c.args.program.now) c.requires.lawful c.requires.coloured (layout_in c.args.program.now)
-    c.requires.sound.layout c.requires.starts.0 c.requires.starts.1 (g.S.Steps.left c.args.steps.now) c.requires.accepted)
+    c.is_sound.ensures.layout c.requires.starts.0 c.requires.starts.1 (g.S.Steps.left c.args.steps.now) c.requires.accepted)
     (stops_at (setup_in c.args.program.now) (layout_in c.args.program.now) (tables_in c.args.program.now) (g.S.Steps.left c.args.steps.now)
     (g.S.Steps.left c.loop-next.steps) c.in-Some.step c.args.machine.now c.loop-next.machine c.take.new.machine r
     (stop_of c.in-Some-2.stop)
@@ -294,7 +294,7 @@ returns-clause-same g c =
     (sequential (setup_in c.args.program.now).program) None c.loop-next.machine
     (flat_from (setup_in c.args.program.now) (layout_in c.args.program.now) (g.S.Steps.left c.args.steps.now) c.requires.starts.0)
     (c.flat_runs_as_sequential.ensures (setup_in c.args.program.now) c.requires.lawful c.requires.coloured (layout_in c.args.program.now)
-    c.requires.sound.layout c.requires.starts.0 c.requires.starts.1 (g.S.Steps.left c.args.steps.now) c.requires.accepted)
+    c.is_sound.ensures.layout c.requires.starts.0 c.requires.starts.1 (g.S.Steps.left c.args.steps.now) c.requires.accepted)
     (at_end (setup_in c.args.program.now) (layout_in c.args.program.now) (tables_in c.args.program.now) (g.S.Steps.left c.args.steps.now)
     (g.S.Steps.left c.loop-next.steps) c.args.machine.now c.loop-next.machine c.loop-next.next c.in_default.is
     (c.loop-next.invariant.over c.in_default.is) c.loop-next.invariant.reached
@@ -379,7 +379,7 @@ run_behind-requires-in_default-step-clause-alone g c κs within =
     groups_after (setup_in c.args.program.now) (layout_in c.args.program.now) (g.S.Steps.left c.args.steps.now) taken.front
     (g.S.Steps.left c.loop-next.steps)
     (c.closed_groups_are_alone.ensures (setup_in c.args.program.now) c.requires.coloured (layout_in c.args.program.now)
-    c.requires.sound.layout (g.S.Steps.left c.args.steps.now) c.requires.accepted) taken.split
+    c.is_sound.ensures.layout (g.S.Steps.left c.args.steps.now) c.requires.accepted) taken.split
   where
     r : Reached (setup_in c.args.program.now) (layout_in c.args.program.now) (tables_in c.args.program.now)
         (g.S.Steps.left c.args.steps.now) (c.in-Some.step ∷ g.S.Steps.left c.loop-next.steps) c.args.machine.now c.loop-next.machine

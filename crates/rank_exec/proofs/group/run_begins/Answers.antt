@@ -148,14 +148,14 @@ run_all-requires-clause-takes g c κs within i lt =
     let x = get_or c.deref-2.result.now i 0 in
     let task = task_at c.load_all.new.buffers.tasks.items i in
     let planned = planned_at (by_place p l) k r c.deref-2.result.now planned_all i here in
-    let w = c.windows_are_counted.ensures.elements p l c.requires.sound.layout k r x planned in
+    let w = c.windows_are_counted.ensures.elements p l c.is_sound.ensures.layout k r x planned in
     let cells = at.cells ∙ c.windows_are_counted.ensures.windows p l t k r x at.spans at.scalars at.are in
     let constants : length c.deref-3.result.now ≡ length (tables_in c.args.program.now).constants = ap length c.deref-3.ensures.value ∙
     c.read_constants.ensures.count in
     subst (λ e. Takes q k e (length c.deref-3.result.now) task.cells) (sym at.element)
     (subst (λ n. Takes q k (l.original k r x) n task.cells) (sym constants)
     (subst (Takes q k (l.original k r x) (length t.constants)) (sym cells)
-    (each_runs q c.requires.sound k (l.original k r x) (ap is_loop w.0) w.1)))
+    (each_runs q k (l.original k r x) (ap is_loop w.0) w.1)))
 
 pub run_all-requires-clause-buffers : goal.run_all-requires-clause-buffers
 run_all-requires-clause-buffers g c κs within =

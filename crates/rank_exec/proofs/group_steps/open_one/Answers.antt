@@ -23,7 +23,7 @@ returns-then-is_zero-clause-shows c f h =
     (flat_step (setup_in c.args.program.now) (layout_in c.args.program.now)
     (Begin c.args.begin.item c.args.begin.rank c.args.begin.place) f)) (sym (opened_as c))
     (c.begin_shows.ensures (setup_in c.args.program.now) (layout_in c.args.program.now) (tables_in c.args.program.now)
-    c.requires.sound.indexed c.requires.sound.layout c.args.begin.item c.args.begin.rank c.args.begin.place c.requires.planned
+    c.is_sound.ensures.indexed c.is_sound.ensures.layout c.args.begin.item c.args.begin.rank c.args.begin.place c.requires.planned
     c.requires.ran.spans c.requires.ran.scalars c.requires.ran.are c.args.machine.now f h c.requires.shut)
 
 pub returns-then-is_zero-clause-mail : goal.returns-then-is_zero-clause-mail

@@ -11,7 +11,7 @@ returns c =
     let own = c.owners_copy.ensures in
     on_ok_weaker c.push_owned.result
     (λ e f h. e ∙ ap (λ l. c.args.values.now.items ++ l)
-    (c.owners_show.ensures.cells (setup_in c.args.program.now) (layout_in c.args.program.now) (tables_in c.args.program.now) c.requires.sound.indexed c.args.machine.now f h o own.rank own.inside
+    (c.owners_show.ensures.cells (setup_in c.args.program.now) (layout_in c.args.program.now) (tables_in c.args.program.now) c.is_sound.ensures.indexed c.args.machine.now f h o own.rank own.inside
     (owner_there (program_in c.args.program.now) (setup_in c.args.program.now) (layout_in c.args.program.now) (tables_in c.args.program.now) (refl) c.args.dat c.args.element c.requires.element o own)
     ∙ ap (map (owned (setup_in c.args.program.now) (layout_in c.args.program.now) f))
     (row_is (program_in c.args.program.now) ((layout_in c.args.program.now).cell_at o.rank) c.args.dat c.args.element o.at o.dim own.dim

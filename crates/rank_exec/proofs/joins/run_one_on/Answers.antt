@@ -16,18 +16,18 @@ element-requires-clause-takes c =
     (sym (c.windows_are_counted.ensures.owned (setup_in c.args.run.now.program.now) (layout_in c.args.run.now.program.now)
     (tables_in c.args.run.now.program.now) c.args.run.now.item c.args.run.now.element c.args.windows.now.spans.now
     c.args.windows.now.indices.now c.requires.are))
-    (each_runs c.args.run.now.program.now c.requires.sound c.args.run.now.item c.args.run.now.element (ap is_loop c.requires.kind) c.requires.element))
+    (each_runs c.args.run.now.program.now c.args.run.now.item c.args.run.now.element (ap is_loop c.requires.kind) c.requires.element))
 
 pub element-requires-clause-inside : goal.element-requires-clause-inside
 element-requires-clause-inside c =
     (c.steps_can.ensures.element (setup_in c.args.run.now.program.now) (layout_in c.args.run.now.program.now)
-    (tables_in c.args.run.now.program.now) c.args.machine.now c.requires.shows.0 c.requires.shows.1 c.requires.sound.indexed
+    (tables_in c.args.run.now.program.now) c.args.machine.now c.requires.shows.0 c.requires.shows.1 c.is_sound.ensures.indexed
     c.args.run.now.item c.args.run.now.element c.args.windows.now.spans.now c.args.windows.now.indices.now c.requires.are).inside
 
 pub element-requires-clause-reads : goal.element-requires-clause-reads
 element-requires-clause-reads c =
     (c.steps_can.ensures.element (setup_in c.args.run.now.program.now) (layout_in c.args.run.now.program.now)
-    (tables_in c.args.run.now.program.now) c.args.machine.now c.requires.shows.0 c.requires.shows.1 c.requires.sound.indexed
+    (tables_in c.args.run.now.program.now) c.args.machine.now c.requires.shows.0 c.requires.shows.1 c.is_sound.ensures.indexed
     c.args.run.now.item c.args.run.now.element c.args.windows.now.spans.now c.args.windows.now.indices.now c.requires.are).reads
 
 pub returns-clause-fault : goal.returns-clause-fault

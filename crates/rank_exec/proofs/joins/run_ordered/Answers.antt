@@ -1,4 +1,4 @@
-use Rattle.std.proofs.Common.{◌≡◌, ◌+◌, ◌<◌, ◌≤◌, suc, Some, sym, ap, subst, ◌∙◌, arith}
+use Rattle.std.proofs.Common.{Vec, Global, ℤ, ◌≡◌, ◌+◌, ◌<◌, ◌≤◌, suc, Some, sym, ap, subst, ◌∙◌, arith, length}
 use Rattle.kernel_model.specs.declared.types.faults.KernelFault.{KernelFault}
 use Rattle.schedule_steps.specs.declared.step.Step.TheVariants.{Join}
 use Rattle.schedule_model.specs.Program.{elements}
@@ -9,6 +9,8 @@ use Rattle.rank_state.specs.Shows.{Shows}
 use Rattle.rank_state.specs.Ordered.{run_of}
 use Rattle.rank_exec.proofs.Kernels.{no_fault, a_fault}
 use Rattle.rank_program.specs.Sound.{setup_in, layout_in, tables_in}
+use Rattle.run_model.specs.Programs.{loop_of}
+use Rattle.rank_program.specs.Constants.{ConstantsStay}
 use Rattle.rank_exec.proofs.joins.run_ordered.Goals as goal
 
 pub returns-in-Some-clause-after : goal.returns-in-Some-clause-after
@@ -20,7 +22,7 @@ returns-in-Some-clause-after c f h =
     (sym c.run_one.ensures.ran.fault_is ∙ c.in-Some.is) in
     let shows = c.loop-element.invariant.reached f h in
     let stopped = c.loop_shows.ensures.breaks (setup_in c.args.program.now) (layout_in c.args.program.now) (tables_in c.args.program.now)
-    c.requires.sound.indexed c.requires.sound.layout c.args.item f c.loop-element.element c.loop-element.machine shows
+    c.is_sound.ensures.indexed c.is_sound.ensures.layout c.args.item f c.loop-element.element c.loop-element.machine shows
     c.run_one.ensures.ran.spans c.run_one.ensures.ran.indices c.run_one.ensures.ran.are c.in-Some.fault fault in
     let last : suc c.loop-element.element ≤ elements (setup_in c.args.program.now).program c.args.item = (let e = c.elements_of-element-end.ensures in omega (arith, c.loop-element-test.true)) in
     let whole : flat_step (setup_in c.args.program.now) (layout_in c.args.program.now) (Join c.args.item) f ≡ record
@@ -49,10 +51,16 @@ loop-element-preserved c =
           (loop_flat (setup_in c.args.program.now) (layout_in c.args.program.now) c.args.item (suc c.loop-element.element) f))
           (sym c.run_one.ensures.ran.state_is)
           (c.loop_shows.ensures.goes (setup_in c.args.program.now) (layout_in c.args.program.now) (tables_in c.args.program.now)
-          c.requires.sound.indexed c.requires.sound.layout c.args.item f c.loop-element.element c.loop-element.machine
+          c.is_sound.ensures.indexed c.is_sound.ensures.layout c.args.item f c.loop-element.element c.loop-element.machine
           (c.loop-element.invariant.reached f h) c.requires.kind in_loop c.run_one.ensures.ran.spans c.run_one.ensures.ran.indices
           c.run_one.ensures.ran.are left.0 left.1));
-      space = c.run_one.ensures.space;
+      space = record {
+        spans_fit = c.run_one.ensures.space.spans_fit;
+        owned_fit = c.run_one.ensures.space.owned_fit;
+        kernels_fit = c.run_one.ensures.space.kernels_fit;
+        constants_fit = c.read_again.ensures.count;
+      };
+      values = c.read_again.ensures.values;
       mail = ap (λ (s : State KernelFault). s.mail.left) c.run_one.ensures.ran.state_is ∙ c.loop-element.invariant.mail;
       frames = ap (λ (s : State KernelFault). s.frames.left) c.run_one.ensures.ran.state_is ∙ c.loop-element.invariant.frames;
     }
@@ -66,3 +74,25 @@ returns-clause-after c f h =
     ∙ sym (c.loop_shows.ensures.join (setup_in c.args.program.now) (layout_in c.args.program.now) (tables_in c.args.program.now)
     c.args.machine.now f h c.args.item c.requires.going c.requires.kind))
     (c.loop-element.invariant.reached f h)
+
+pub read_again-requires-clause-kept : goal.read_again-requires-clause-kept
+read_again-requires-clause-kept c stay =
+    ap (λ (v : Vec ℤ Global). v.items) c.run_one.ensures.constants
+    ∙ c.loop-element.invariant.values
+    ∙ sym (c.run_one.ensures.stay (subst (ConstantsStay c.args.program.now) (sym (ap loop_of c.requires.site)) (c.constants_stay-stay.ensures stay)))
+
+pub read_again-requires-clause-shows : goal.read_again-requires-clause-shows
+read_again-requires-clause-shows c =
+    let p = setup_in c.args.program.now in
+    let l = layout_in c.args.program.now in
+    let t = tables_in c.args.program.now in
+    let f = c.requires.shows.0 in
+    let left = no_fault (run_of l t c.args.item c.loop-element.element c.run_one.ensures.ran.spans c.run_one.ensures.ran.indices c.loop-element.machine)
+    (sym c.run_one.ensures.ran.fault_is ∙ c.in_default.is) in
+    let in_loop : c.loop-element.element < elements p.program c.args.item = (let e = c.elements_of-element-end.ensures in omega (arith, c.loop-element-test.true)) in (
+      loop_flat p l c.args.item (suc c.loop-element.element) f,
+      subst (λ (s : State KernelFault). Shows p l t s (loop_flat p l c.args.item (suc c.loop-element.element) f)) (sym c.run_one.ensures.ran.state_is)
+          (c.loop_shows.ensures.goes p l t c.is_sound.ensures.indexed c.is_sound.ensures.layout c.args.item f c.loop-element.element c.loop-element.machine
+          (c.loop-element.invariant.reached f c.requires.shows.1) c.requires.kind in_loop c.run_one.ensures.ran.spans c.run_one.ensures.ran.indices
+          c.run_one.ensures.ran.are left.0 left.1),
+    )

@@ -34,8 +34,8 @@ on_ranks-requires-clause-steps g c κs within r lt i li =
     let can : CanBegin p l c.args.machine.now.frames (round c.args.of.item (places_on ls) (length ls)) =
     (subst (λ (ls : Lists). CanBegin p l c.args.machine.now.frames (round c.args.of.item (places_on ls) (length ls))) (sym same)
     (subst (CanBegin p l c.args.machine.now.frames) groups.2
-    (all_can p l t (λ k r. c.in_place_shows.ensures p l t c.requires.sound.indexed c.requires.sound.layout k r)
-    (λ k r. c.requires.sound.windowed k r)
+    (all_can p l t (λ k r. c.in_place_shows.ensures p l t c.is_sound.ensures.indexed c.is_sound.ensures.layout k r)
+    (λ k r. c.is_sound.ensures.windowed k r)
     (c.places_stay_shut.ensures p l) c.args.of.item gs c.args.machine.now c.requires.shows.0 c.requires.shows.1
     (groups_front p l come (all_closed c.args.of.item gs) rest c.requires.alone groups.1)
     (ready_front p l t come (all_closed c.args.of.item gs) rest c.args.machine.now c.requires.ready groups.1)))) in
@@ -69,8 +69,8 @@ returns-clause-done g c =
     let can : CanBegin p l c.args.machine.now.frames (round c.args.of.item (places_on ls) (length ls)) =
     (subst (λ (ls : Lists). CanBegin p l c.args.machine.now.frames (round c.args.of.item (places_on ls) (length ls))) (sym same)
     (subst (CanBegin p l c.args.machine.now.frames) groups.2
-    (all_can p l t (λ k r. c.in_place_shows.ensures p l t c.requires.sound.indexed c.requires.sound.layout k r)
-    (λ k r. c.requires.sound.windowed k r)
+    (all_can p l t (λ k r. c.in_place_shows.ensures p l t c.is_sound.ensures.indexed c.is_sound.ensures.layout k r)
+    (λ k r. c.is_sound.ensures.windowed k r)
     (c.places_stay_shut.ensures p l) c.args.of.item gs c.args.machine.now c.requires.shows.0 c.requires.shows.1
     (groups_front p l come (all_closed c.args.of.item gs) rest c.requires.alone groups.1)
     (ready_front p l t come (all_closed c.args.of.item gs) rest c.args.machine.now c.requires.ready groups.1)))) in
@@ -90,7 +90,7 @@ returns-clause-done g c =
     let done : Done p l t (round c.args.of.item (places_on c.gather.new.lists) (length c.gather.new.lists)) c.args.machine.now
     c.on_ranks.new.self =
     subst (λ (zs : Lists). Done p l t (round c.args.of.item (places_on zs) (length zs)) c.args.machine.now c.on_ranks.new.self) same
-    (ran_round p l t (c.ranks_come_in_turn.ensures p l t) c.requires.sound.indexed c.requires.sound.layout c.args.of.item (places_on ls)
+    (ran_round p l t (c.ranks_come_in_turn.ensures p l t) c.is_sound.ensures.indexed c.is_sound.ensures.layout c.args.of.item (places_on ls)
     (length ls) c.args.machine.now c.on_ranks.new.self
     c.requires.shows.0 c.requires.shows.1 can ran.0 many ranks ran.2 (c.shares_are_set.ensures c.args.machine.now ran.0) ran.3) in
     let alone : GroupsAreAlone p l (all_closed c.args.of.item gs) = groups_front p l come (all_closed c.args.of.item gs) rest

@@ -10,7 +10,7 @@ use Rattle.rank_exec.proofs.planned_run.rooms.cells_in_message.Goals as goal
 pub push_sent-requires-clause-step : goal.push_sent-requires-clause-step
 push_sent-requires-clause-step c =
     let x = c.args.program.now in
-    let s = c.requires.sound in
+    let s = c.is_sound.ensures in
     let all = c.standard_is_accepted.ensures (outline_in x) 1 in
     let here = (c.plans_are_by_place.ensures.accept (program_in x) x.owners.now s.numbers x.meshes.now (plan_in x) s.planned (standard (outline_in x) 1)).0 all in
     same_steps (outline_in x) (by_place (setup_in x) (layout_in x)) (standard (outline_in x) 1) all here (Send c.args.item c.args.from c.args.to) c.requires.step

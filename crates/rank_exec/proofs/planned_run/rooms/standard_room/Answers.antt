@@ -8,6 +8,7 @@ use Rattle.run_model.specs.Programs.{kind_of}
 use Rattle.run_model.specs.Programs as program
 use Rattle.loop_plan.specs.Needs.{item_at}
 use Rattle.loop_plan.specs.StepOutline.{is_free}
+use Rattle.rank_program.specs.declared.program.DistributedProgram.{DistributedProgram}
 use Rattle.rank_program.specs.Sound.{program_in, plan_in, layout_in, outline_in, tables_in}
 use Rattle.rank_exec.proofs.planned_run.rooms.standard_room.Goals as goal
 
@@ -24,13 +25,14 @@ free_item b k h = free_kind (program.item_at b k) h
 pub returns : goal.returns
 returns c =
     let x = c.args.program.now in
-    let s = c.requires.sound in
+    let s = c.is_sound.ensures in
+    let places : c.parts.result.now.tables.places.items ≡ x.tables.places.items = ap (λ (d : DistributedProgram). d.tables.places.items) c.parts.ensures.are in
     let ranks : (plan_in x).ranks ≡ x.owners.now.ranks = s.planned.proper.ranks ∙ s.planned.distributed.are_meshes.count in
     record {
       opened = c.standard_has_room.ensures.frames (outline_in x) c.args.group c.most_open-frames.result (omega arith) (λ k r lk free lr.
           let lo : r < x.owners.now.ranks = omega arith in
-          let count : length c.deref.result.now ≡ x.owners.now.ranks = ap length c.deref.ensures.value ∙ s.made.place_count in
-          let places : get_or c.deref.result.now r 0 ≡ (tables_in x).places r = ap (λ (z : List ℕ). get_or z r 0) c.deref.ensures.value ∙ s.made.places r lo in
+          let count : length c.deref.result.now ≡ x.owners.now.ranks = ap length (c.deref.ensures.value ∙ places) ∙ s.made.place_count in
+          let here : get_or c.deref.result.now r 0 ≡ (tables_in x).places r = ap (λ (z : List ℕ). get_or z r 0) (c.deref.ensures.value ∙ places) ∙ s.made.places r lo in
           let few : (layout_in x).count k r ≤ (tables_in x).places r = s.indexed.counts_fit k r (free_item (program_in x) k free) lo in
           let one : min c.args.group (get_or c.deref.result.now r 0) ≤ c.most_open-frames.result = c.most_open-frames.ensures r (omega arith) in
           let same : (outline_in x).count k r ≡ (layout_in x).count k r = refl in

@@ -16,6 +16,7 @@ use Rattle.schedule_check.specs.Mail.{plan_cells}
 use Rattle.bound_plan.specs.Memories.{dump_of}
 use Rattle.loop_plan.specs.Planned.{PlannedValue}
 use Rattle.rank_program.specs.Runnables.{HasLocalLists}
+use Rattle.rank_program.specs.declared.program.DistributedProgram.{DistributedProgram}
 use Rattle.rank_program.specs.Sound.{program_in, plan_in, layout_in, outline_in}
 use Rattle.rank_exec.specs.Driving.{FitsPeak}
 use Rattle.rank_exec.specs.Runs.{IsRunBy}
@@ -59,22 +60,19 @@ new-requires-clause-codes g c =
     subst (λ (v : PlannedValue). AreCodesOf (bound_of v.bound).kernels c.deref-3.result.now) c.planned.view_is
     (rw c.deref-3.ensures.value (rw c.deref.ensures.value at c.in_ok-codes.ensures))
 
-pub run_planned-requires-clause-obey : goal.run_planned-requires-clause-obey
-run_planned-requires-clause-obey g c κs within = subst AllObey (sym c.in_ok-program.ensures.of.of_bound) c.requires.obey
-
 pub run_planned-requires-clause-start : goal.run_planned-requires-clause-start
-run_planned-requires-clause-start g c κs within = subst StartsInRange (sym c.in_ok-program.ensures.of.of_bound) c.requires.start
+run_planned-requires-clause-start g c κs within = subst StartsInRange (sym c.in_ok-program.ensures.of_bound) c.requires.start
 
 pub run_planned-requires-clause-accepted : goal.run_planned-requires-clause-accepted
 run_planned-requires-clause-accepted g c κs within =
-    accepted_alike c.in_ok-shape-in-Standard.ensures.outline c.in_ok-steps-in-Standard.ensures.accepted
+    accepted_alike (c.in_ok-shape-in-Standard.ensures.outline ∙ ap outline_in c.parts-parts.ensures.are) c.in_ok-steps-in-Standard.ensures.accepted
 
 pub run_planned-requires-clause-peak : goal.run_planned-requires-clause-peak
 run_planned-requires-clause-peak g c κs within =
     let x = c.in_ok-program.program in
     let room = c.in_ok-room-in-Standard.room in
     subst (λ (z : List Step). FitsPeak (layout_in x) room.frames room.mail z)
-    (sym (c.in_ok-steps-in-Standard.ensures.order ∙ one_order c.in_ok-shape-in-Standard.ensures.outline
+    (sym (c.in_ok-steps-in-Standard.ensures.order ∙ one_order (c.in_ok-shape-in-Standard.ensures.outline ∙ ap outline_in c.parts-parts.ensures.are)
     c.in_ok-shape-in-Standard.ensures.group))
     c.in_ok-room-in-Standard.ensures
 
@@ -82,26 +80,23 @@ pub returns-in-Standard : goal.returns-in-Standard
 returns-in-Standard g c =
     let x = c.in_ok-program.program in
     let out = c.in_ok-outcome-in-Standard.outcome in
-    told c.args.planned.now x c.in_ok-program.ensures.of c.args.order.now c.args.dumps out
+    told c.args.planned.now x c.in_ok-program.ensures c.args.order.now c.args.dumps out
     (λ l e. subst (λ (z : List Step). IsRunBy (program_in x) (dump_of c.args.dumps (program_in x) x.owners.now x.meshes.now (plan_in x) z)
     out)
     (c.in_ok-steps-in-Standard.ensures.order ∙
-    (one_order c.in_ok-shape-in-Standard.ensures.outline c.in_ok-shape-in-Standard.ensures.group ∙ sym
+    (one_order (c.in_ok-shape-in-Standard.ensures.outline ∙ ap outline_in c.parts-parts.ensures.are) c.in_ok-shape-in-Standard.ensures.group ∙ sym
     (subst (λ (z : Order). InOrder (outline_in x) z l) c.in-Standard.is e)))
     c.in_ok-outcome-in-Standard.ensures)
 
-pub run_planned-requires-in-Drawn-clause-obey : goal.run_planned-requires-in-Drawn-clause-obey
-run_planned-requires-in-Drawn-clause-obey g c κs within = subst AllObey (sym c.in_ok-program.ensures.of.of_bound) c.requires.obey
-
 pub run_planned-requires-in-Drawn-clause-start : goal.run_planned-requires-in-Drawn-clause-start
-run_planned-requires-in-Drawn-clause-start g c κs within = subst StartsInRange (sym c.in_ok-program.ensures.of.of_bound) c.requires.start
+run_planned-requires-in-Drawn-clause-start g c κs within = subst StartsInRange (sym c.in_ok-program.ensures.of_bound) c.requires.start
 
 pub peak_of-requires-clause-ranks : goal.peak_of-requires-clause-ranks
 peak_of-requires-clause-ranks g c =
-    let s = c.in_ok-program.ensures.sound in (
+    let s = c.parts-parts.ensures.sound in (
       s.halos,
       record {
-        owners = c.in_ok-program.program.owners.now;
+        owners = c.parts-parts.result.now.owners.now;
         numbers = s.numbers;
         are_halos = s.lists.halos;
         distributed = s.planned.distributed;
@@ -110,56 +105,54 @@ peak_of-requires-clause-ranks g c =
 
 pub run_planned-requires-in-Drawn-clause-accepted : goal.run_planned-requires-in-Drawn-clause-accepted
 run_planned-requires-in-Drawn-clause-accepted g c κs within =
-    accepted_alike c.in_ok-shape-in-Drawn.ensures.outline c.in_ok-again-in-Drawn.ensures.accepted
+    accepted_alike (c.in_ok-shape-in-Drawn.ensures.outline ∙ ap outline_in c.parts-parts.ensures.are) c.in_ok-again-in-Drawn.ensures.accepted
 
 pub run_planned-requires-in-Drawn-clause-peak : goal.run_planned-requires-in-Drawn-clause-peak
 run_planned-requires-in-Drawn-clause-peak g c κs within =
     let x = c.in_ok-program.program in
-    let s = c.in_ok-program.ensures.sound in
+    let s = c.is_sound.ensures in
     let e : c.in_ok-steps-in-Drawn.steps ≡ c.in_ok-again-in-Drawn.again = c.drawn_once.ensures (outline_in x) c.in-Drawn.group
     c.in-Drawn.seed c.in_ok-steps-in-Drawn.steps c.in_ok-again-in-Drawn.again
-    (drawn_alike c.in-Drawn.seed c.in_ok-steps-in-Drawn.steps c.in_ok-shape-in-Drawn.ensures.outline c.in_ok-shape-in-Drawn.ensures.group
+    (drawn_alike c.in-Drawn.seed c.in_ok-steps-in-Drawn.steps (c.in_ok-shape-in-Drawn.ensures.outline ∙ ap outline_in c.parts-parts.ensures.are) c.in_ok-shape-in-Drawn.ensures.group
     c.in_ok-steps-in-Drawn.ensures.drawn)
-    (drawn_alike c.in-Drawn.seed c.in_ok-again-in-Drawn.again c.in_ok-shape-in-Drawn.ensures.outline c.in_ok-shape-in-Drawn.ensures.group
+    (drawn_alike c.in-Drawn.seed c.in_ok-again-in-Drawn.again (c.in_ok-shape-in-Drawn.ensures.outline ∙ ap outline_in c.parts-parts.ensures.are) c.in_ok-shape-in-Drawn.ensures.group
     c.in_ok-again-in-Drawn.ensures.drawn) in
     c.peaks_are_room.ensures.room (program_in x) x.owners.now s.numbers x.meshes.now (plan_in x) s.planned
     c.in_ok-again-in-Drawn.again c.in_ok-peak-in-Drawn.peak
-    (accepted_alike c.in_ok-shape-in-Drawn.ensures.outline c.in_ok-again-in-Drawn.ensures.accepted)
+    (accepted_alike (c.in_ok-shape-in-Drawn.ensures.outline ∙ ap outline_in c.parts-parts.ensures.are) c.in_ok-again-in-Drawn.ensures.accepted)
     (subst (λ (l : List Step). IsPeak (plan_cells (program_in x) x.meshes.now (plan_in x)) l c.in_ok-peak-in-Drawn.peak) e
-    c.in_ok-peak-in-Drawn.ensures)
+    (subst (λ (d : DistributedProgram). IsPeak (plan_cells (program_in d) d.meshes.now (plan_in d)) c.in_ok-steps-in-Drawn.steps c.in_ok-peak-in-Drawn.peak) c.parts-parts.ensures.are
+    c.in_ok-peak-in-Drawn.ensures))
 
 pub returns-in-Drawn : goal.returns-in-Drawn
 returns-in-Drawn g c =
     let x = c.in_ok-program.program in
     let out = c.in_ok-outcome-in-Drawn.outcome in
-    told c.args.planned.now x c.in_ok-program.ensures.of c.args.order.now c.args.dumps out
+    told c.args.planned.now x c.in_ok-program.ensures c.args.order.now c.args.dumps out
     (λ l e. subst (λ (z : List Step). IsRunBy (program_in x) (dump_of c.args.dumps (program_in x) x.owners.now x.meshes.now (plan_in x) z)
     out)
     (c.drawn_once.ensures (outline_in x) c.in-Drawn.group c.in-Drawn.seed c.in_ok-again-in-Drawn.again l
-    (drawn_alike c.in-Drawn.seed c.in_ok-again-in-Drawn.again c.in_ok-shape-in-Drawn.ensures.outline
+    (drawn_alike c.in-Drawn.seed c.in_ok-again-in-Drawn.again (c.in_ok-shape-in-Drawn.ensures.outline ∙ ap outline_in c.parts-parts.ensures.are)
     c.in_ok-shape-in-Drawn.ensures.group c.in_ok-again-in-Drawn.ensures.drawn)
     (subst (λ (z : Order). InOrder (outline_in x) z l) c.in-Drawn.is e))
     c.in_ok-outcome-in-Drawn.ensures)
 
-pub run_planned-requires-in-Listed-clause-obey : goal.run_planned-requires-in-Listed-clause-obey
-run_planned-requires-in-Listed-clause-obey g c κs within = subst AllObey (sym c.in_ok-program.ensures.of.of_bound) c.requires.obey
-
 pub run_planned-requires-in-Listed-clause-start : goal.run_planned-requires-in-Listed-clause-start
-run_planned-requires-in-Listed-clause-start g c κs within = subst StartsInRange (sym c.in_ok-program.ensures.of.of_bound) c.requires.start
+run_planned-requires-in-Listed-clause-start g c κs within = subst StartsInRange (sym c.in_ok-program.ensures.of_bound) c.requires.start
 
 pub run_planned-requires-in-Listed-clause-accepted : goal.run_planned-requires-in-Listed-clause-accepted
 run_planned-requires-in-Listed-clause-accepted g c κs within =
     let x = c.in_ok-program.program in
     let can = subst (λ (z : Order). CanTake (outline_in x) (plan_cells (program_in x) x.meshes.now (plan_in x)) z) c.in-Listed.is
-    (can_take c.args.planned.now x c.in_ok-program.ensures.of c.args.order.now c.requires.order) in
+    (can_take c.args.planned.now x c.in_ok-program.ensures c.args.order.now c.requires.order) in
     subst (Accepted (outline_in x)) (sym c.new-steps.ensures) can.0
 
 pub run_planned-requires-in-Listed-clause-peak : goal.run_planned-requires-in-Listed-clause-peak
 run_planned-requires-in-Listed-clause-peak g c κs within =
-    let s = c.in_ok-program.ensures.sound in
+    let s = c.is_sound.ensures in
     let x = c.in_ok-program.program in
     let can = subst (λ (z : Order). CanTake (outline_in x) (plan_cells (program_in x) x.meshes.now (plan_in x)) z) c.in-Listed.is
-    (can_take c.args.planned.now x c.in_ok-program.ensures.of c.args.order.now c.requires.order) in
+    (can_take c.args.planned.now x c.in_ok-program.ensures c.args.order.now c.requires.order) in
     subst (λ (z : List Step). FitsPeak (layout_in x) c.in-Listed.peak.frames c.in-Listed.peak.mail z) (sym c.new-steps.ensures)
     (c.peaks_are_room.ensures.room (program_in x) x.owners.now s.numbers x.meshes.now (plan_in x) s.planned c.in-Listed.steps.now
     c.in-Listed.peak can.0 can.1)
@@ -168,7 +161,7 @@ pub returns : goal.returns
 returns g c =
     let x = c.in_ok-program.program in
     let out = c.in_ok-outcome-in-Listed.outcome in
-    told c.args.planned.now x c.in_ok-program.ensures.of c.args.order.now c.args.dumps out
+    told c.args.planned.now x c.in_ok-program.ensures c.args.order.now c.args.dumps out
     (λ l e. subst (λ (z : List Step). IsRunBy (program_in x) (dump_of c.args.dumps (program_in x) x.owners.now x.meshes.now (plan_in x) z)
     out)
     (c.new-steps.ensures ∙ sym (subst (λ (z : Order). InOrder (outline_in x) z l) c.in-Listed.is e))
