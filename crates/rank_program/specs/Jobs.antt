@@ -25,11 +25,11 @@ task_at tasks i = get_or tasks i no_task
 
 -- no targets
 abbrev pub no_targets : Targets
-no_targets = record { places = [] }
+no_targets = record { places = record { items = []; capacity = 0 } }
 
 -- the places of one task's targets, one for each argument
-abbrev pub places_in : List Targets → ℕ → ℕ → List Place
-places_in targets args i = take args (get_or targets i no_targets).places
+abbrev pub places_in : List Targets → ℕ → List Place
+places_in targets i = (get_or targets i no_targets).places.items
 
 -- window i of a buffer of windows of so many cells
 abbrev pub part : ℕ → ℕ → List ℤ → List ℤ
@@ -56,19 +56,18 @@ window_after places consts k n w = left_after (kernel_meaning (map target_of pla
 -- the run for a task on the values of its cells
 abbrev pub job_core : KernelJob → ℕ → List ℤ → Core KernelFault
 job_core j i ws =
-    core_of (kernel_meaning (map target_of (places_in j.targets.now j.args i)) j.constants.now j.code.now.kernel.now (ws ∷ []))
+    core_of (kernel_meaning (map target_of (places_in j.targets.now i)) j.constants.now j.code.now.kernel.now (ws ∷ []))
 
 -- the window after the run for its task
 abbrev pub job_window : KernelJob → ℕ → List ℤ → List ℤ
-job_window j i w = window_after (places_in j.targets.now j.args i) j.constants.now j.code.now.kernel.now (task_at j.tasks.now i).cells w
+job_window j i w = window_after (places_in j.targets.now i) j.constants.now j.code.now.kernel.now (task_at j.tasks.now i).cells w
 
 -- a window of so many cells has room for the run of its task
 pub record Accepts (j : KernelJob) (i n : ℕ) : Type 0 where
   pub task : i < length j.tasks.now
   pub targets : length j.targets.now ≡ length j.tasks.now
-  pub few : j.args ≤ 16
   pub code : IsCode j.code.now
-  pub params : j.args ≡ j.code.now.kernel.now.params
+  pub params : length (places_in j.targets.now i) ≡ j.code.now.kernel.now.params
   pub resolved : IsResolved (length j.constants.now) j.code.now.kernel.now
-  pub fits : PlacesIn (task_at j.tasks.now i).cells (places_in j.targets.now j.args i)
+  pub fits : PlacesIn (task_at j.tasks.now i).cells (places_in j.targets.now i)
   pub room : (task_at j.tasks.now i).cells + j.code.now.slots < n

@@ -14,8 +14,9 @@ module _ (b : BoundValue) (args : List Arg) where
   pub record AreTargets (task : Task) (places : List Place) : Type 0 where
     pub places_are : map target_of places ≡ frame_windows b args task.element
     pub within : PlacesIn (length (frame_cells b args task.element)) places
+    pub count : length places ≡ length args
 
   -- so for each of the tasks
   pub record AllTargets (tasks : List Task) (targets : List Targets) : Type 0 where
-    pub each : (i : ℕ) → i < length tasks → AreTargets (task_at tasks i) (places_in targets (length args) i)
+    pub each : (i : ℕ) → i < length tasks → AreTargets (task_at tasks i) (places_in targets i)
     pub count : length targets ≡ length tasks

@@ -11,15 +11,15 @@ use crate::counts::all_count;
 use crate::here::run_alone;
 use crate::local_loops::LocalLoop;
 use crate::many::run_many;
-use crate::room::{KernelRoom, MOST_COLUMNS};
+use crate::room::{KernelRoom, MOST_COLUMNS, open_places};
 use crate::row_loops::{LoopInRows, MOST_PAIRS, no_column, row_loop};
 use crate::share::RankShare;
 use kernel_columns::ROWS;
-use kernel_model::types::views::Place;
 use kernel_runs::row_batches::{FEWEST, RowRoom, batch_at, run_batch};
 use kernel_runs::worker_batches::Workers;
 use par_exec::{Gate, ItemGate};
 use rank_layout::{MAX_ARGS, element_windows_stand, steps_stand, windows_stand};
+use smallvec::SmallVec;
 use std::marker::Sync;
 use std::thread::Threads;
 
@@ -135,14 +135,15 @@ pub fn run_batches<R: Threads + Sync, G: Gate + Sync>(
     }
     let mut ways = [None; MAX_ARGS];
     let mut columns = [no_column(); MOST_COLUMNS];
-    let mut frame = [Place { from: 0, count: 0 }; MAX_ARGS];
+    let mut frame = SmallVec::new(*room.places.allocator());
+    open_places(local.args.len(), &mut frame);
     let mut pairs = [(0, 0); MOST_PAIRS];
     match row_loop(
         local,
         room.places.as_slice(),
         &mut ways,
         &mut columns,
-        &mut frame,
+        frame.as_mut_slice(),
         &mut pairs,
     ) {
         None => 0,

@@ -1,6 +1,6 @@
 // Runs of kernels on a rank's own cells, with the cells of a loop's variables behind them.
 
-ghost use Rattle.std.specs.Prelude.{◌≡◌, ◌<◌, ◌≤◌, ◌+◌, ◌-◌, ◌^◌, ◌==◌, [], All, length, map, take};
+ghost use Rattle.std.specs.Prelude.{◌≡◌, ◌<◌, ◌≤◌, ◌+◌, ◌-◌, ◌^◌, ◌==◌, All, length, map, take};
 ghost use Rattle.rank_state.specs.Windows.{Merges};
 ghost use Rattle.rank_state.specs.Machine.{noted};
 ghost use Rattle.rank_state.specs.Stops.{stop_in};
@@ -17,7 +17,7 @@ use crate::begun::{original_in, owns_in};
 use crate::items::site_of;
 use crate::local_args::put_places;
 use crate::local_loops::LocalLoop;
-use crate::room::{KernelRoom, MOST_WAYS};
+use crate::room::{KernelRoom, MOST_WAYS, open_places};
 use crate::share::RankShare;
 use kernel_model::types::KernelFault;
 use kernel_model::types::views::Place;
@@ -30,18 +30,6 @@ use rank_state::rank_memory::stop::{Stop, least};
 use smallvec::SmallVec;
 use std::marker::Sync;
 use std::thread::Threads;
-
-// Opens so many places, whatever they are.
-fn open_places(count: usize, places: &mut SmallVec<Place, MOST_WAYS>)
-    requires { count ≤ places.old.capacity }
-    ensures count { length places.new.items ≡ count }
-    ensures room { places.new.capacity ≡ places.old.capacity }
-{
-    places.clear();
-    for _place in 0..count {
-        places.push_reserved(Place::default());
-    }
-}
 
 // Moves windows behind so many cells, which stood behind so many others.
 fn move_behind(width: usize, others: usize, windows: &mut [Place])

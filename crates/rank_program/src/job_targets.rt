@@ -1,6 +1,6 @@
 // Where the windows of tasks' arguments stand.
 
-ghost use Rattle.std.specs.Prelude.{◌≡◌, ◌<◌, ◌≤◌, ◌+◌, ℕ, ℤ, List, [], All, map, take, length, vec_capacity};
+ghost use Rattle.std.specs.Prelude.{◌≡◌, ◌<◌, ◌≤◌, ◌+◌, ℕ, ℤ, List, [], All, map, length, vec_capacity};
 ghost use Rattle.mesh_decl.specs.Mesh.{set_size};
 ghost use Rattle.kernel_model.specs.Framed.{target_of, PlacesIn};
 ghost use Rattle.bound_program.specs.Values.{bound_of, site_of};
@@ -12,21 +12,25 @@ ghost use Rattle.rank_program.specs.Targets.{AllTargets};
 ghost use Rattle.rank_program.specs.Sound.{Takes, layout_in, targeted_in};
 
 use crate::items::loop_of;
+use crate::room::open_places;
 use crate::runnable::Runnable;
-use crate::{KernelJob, MOST_ARGS, Targets, Task};
+use crate::{KernelJob, Targets, Task};
 use bound_program::{Arg, Bound, Site};
-use kernel_model::types::views::Place;
-use rank_layout::{args_of, put_windows};
+use rank_layout::put_windows;
+use smallvec::SmallVec;
+use std::alloc::Global;
 
 // Where the windows of a loop's arguments stand in an element's frame.
-fn targets_of(bound: &Bound, args: &[Arg], element: u32) -> Targets
+fn targets_of(alloc: Global, bound: &Bound, args: &[Arg], element: u32) -> Targets
     requires there { All (ArgThere (bound_of bound.now) element) args.now }
     requires few { length args.now ≤ 16 }
-    ensures places { map target_of (take (length args.now) result.places) ≡ frame_windows (bound_of bound.now) args.now element }
-    ensures within { PlacesIn (length (frame_cells (bound_of bound.now) args.now element)) (take (length args.now) result.places) }
+    ensures places { map target_of result.places.items ≡ frame_windows (bound_of bound.now) args.now element }
+    ensures within { PlacesIn (length (frame_cells (bound_of bound.now) args.now element)) result.places.items }
+    ensures count { length result.places.items ≡ length args.now }
 {
-    let mut places = [Place { from: 0, count: 0 }; MOST_ARGS];
-    let _cells = put_windows(bound, args, element, &mut places[..args.len()]);
+    let mut places = SmallVec::new(alloc);
+    open_places(args.len(), &mut places);
+    let _cells = put_windows(bound, args, element, places.as_mut_slice());
     Targets { places }
 }
 
@@ -39,8 +43,9 @@ fn push_targets(bound: &Bound, args: &[Arg], tasks: &[Task], targets: &mut Vec<T
     ensures all { AllTargets (bound_of bound.now) args.now tasks.now targets.new.items }
     ensures room { vec_capacity targets.new ≡ vec_capacity targets.old }
 {
+    let alloc = *targets.allocator();
     for task in tasks {
-        targets.push_reserved(targets_of(bound, args, task.element));
+        targets.push_reserved(targets_of(alloc, bound, args, task.element));
     }
 }
 
@@ -101,7 +106,6 @@ pub fn job<'t>(
         code: &program.codes[site.kernel as usize],
         tasks,
         targets,
-        args: args_of(program.bound, number).len(),
         constants,
     }
 }

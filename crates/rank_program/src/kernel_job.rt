@@ -13,13 +13,12 @@ use par_exec::{Gate, ItemGate, Job};
 use std::marker::Sync;
 
 /// The runs of a kernel for tasks: on the first cells of each task's window, with the values of all constants.
-/// `targets` has by task the places of the kernel's `args` arguments.
+/// `targets` has by task the places of the kernel's arguments.
 #[derive(Drop)]
 pub struct KernelJob<'t> {
     pub code: &'t Code<'t>,
     pub tasks: &'t [Task],
     pub targets: &'t [Targets],
-    pub args: usize,
     pub constants: &'t [i32],
 }
 
@@ -55,7 +54,7 @@ impl<'t> KernelJob<'t> {
         requires { Accepts self.now index (length window.old) }
         ensures { window.new ≡ job_window self.now index window.old }
     {
-        let places = &self.targets[index].places[..self.args];
+        let places = self.targets[index].places.as_slice();
         run_in(
             self.code,
             places,

@@ -1,21 +1,23 @@
 // A kernel's run on an element's frame.
 
-ghost use Rattle.std.specs.Prelude.{◌≡◌, ◌<◌, ◌≤◌, length, map};
+ghost use Rattle.std.specs.Prelude.{◌≡◌, ◌<◌, length, map};
 ghost use Rattle.kernel_model.specs.Framed.{PlacesIn, target_of};
 ghost use Rattle.mesh_decl.specs.Mesh.{set_size};
 ghost use Rattle.bound_program.specs.Values.{bound_of, site_of};
 ghost use Rattle.bound_program.specs.Fits.{SiteFits};
 ghost use Rattle.rank_state.specs.Core.{ran_of};
 ghost use Rattle.bound_plan.specs.Windows.{frame_cells, frame_windows};
+ghost use Rattle.rank_program.specs.Rooms.{HasKernelRoom};
 ghost use Rattle.rank_program.specs.Sound.{Takes, layout_in};
 
 use crate::items::loop_of;
+use crate::room::{KernelRoom, open_places};
 use crate::runnable::Runnable;
 use bound_program::{Bound, Site};
 use kernel_code::run_on;
 use kernel_model::types::KernelFault;
 use kernel_model::types::views::Place;
-use rank_layout::{MAX_ARGS, put_windows};
+use rank_layout::put_windows;
 
 // Puts down where the windows of a loop's arguments stand in an element's frame.
 fn put_frame(bound: &Bound, site: &Site, element: u32, places: &mut [Place])
@@ -30,8 +32,7 @@ fn put_frame(bound: &Bound, site: &Site, element: u32, places: &mut [Place])
 }
 
 /// Runs the kernel of the loop that is the item for an element, with the values of all constants, on the cells of its
-/// windows, one window behind another. What the run leaves in `scratch`, the room for locals, means nothing. Takes no
-/// memory.
+/// windows, one window after another. Takes no memory.
 ///
 /// # Errors
 /// The first fault of the run; the windows then mean nothing.
@@ -41,11 +42,12 @@ pub fn run_kernel(
     element: u32,
     constants: &[i32],
     windows: &mut [i32],
-    scratch: &mut [i32],
+    room: &mut KernelRoom,
 ) -> Result<(), KernelFault>
     requires takes { Takes program.now item element (length constants.now) (length windows.old) }
-    requires room { program.now.locals ≤ length scratch.old }
-    ensures { ran_of windows.new result ≡ (layout_in program.now).core item element constants.now windows.old }
+    requires room { HasKernelRoom program.now.locals room.old }
+    ensures ran { ran_of windows.new result ≡ (layout_in program.now).core item element constants.now windows.old }
+    ensures room { HasKernelRoom program.now.locals room.new }
 {
     let program = program.parts();
     run_model::items_are_there();
@@ -53,8 +55,8 @@ pub fn run_kernel(
     let number = loop_of(program.bound, item) as usize;
     let site = &program.bound.sites[number];
     let code = &program.codes[site.kernel as usize];
-    let mut room = [Place { from: 0, count: 0 }; MAX_ARGS];
-    let places = &mut room[..site.args.len()];
+    open_places(site.args.len(), &mut room.places);
+    let places = room.places.as_mut_slice();
     put_frame(program.bound, site, element, places);
-    run_on(code, windows, places, constants, scratch)
+    run_on(code, windows, places, constants, &mut room.locals)
 }

@@ -1,6 +1,6 @@
 // What steps need on their way, taken once.
 
-ghost use Rattle.std.specs.Prelude.{IfOk};
+ghost use Rattle.std.specs.Prelude.{◌≡◌, ◌≤◌, length, IfOk};
 ghost use Rattle.rank_program.specs.Rooms.{HasKernelRoom, HasRoomOf};
 
 use crate::runnable::Runnable;
@@ -40,6 +40,18 @@ pub const MOST_WAYS: usize = 16;
 
 /// How many columns a kernel has at most that runs for a batch of elements at once: as many as a cache of 32 KiB holds.
 pub const MOST_COLUMNS: usize = 128;
+
+/// Opens so many places, whatever they are.
+pub fn open_places(count: usize, places: &mut SmallVec<Place, MOST_WAYS>)
+    requires { count ≤ places.old.capacity }
+    ensures count { length places.new.items ≡ count }
+    ensures room { places.new.capacity ≡ places.old.capacity }
+{
+    places.clear();
+    for _place in 0..count {
+        places.push_reserved(Place::default());
+    }
+}
 
 impl KernelRoom {
     // As much as kernels with so many cells of locals need that one worker runs.

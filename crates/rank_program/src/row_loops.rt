@@ -1,6 +1,6 @@
 // Loops on a rank whose elements run in rows: what batches look up, made once for a call.
 
-ghost use Rattle.std.specs.Prelude.{◌<◌, ◌≤◌, ◌^◌, ℕ, IfSome, length};
+ghost use Rattle.std.specs.Prelude.{◌≡◌, ◌<◌, ◌≤◌, ◌^◌, ℕ, IfSome, length};
 ghost use Rattle.rank_program.specs.Batches.{IsRowLoop, BeginsAt};
 ghost use Rattle.rank_program.specs.LocalLoops.{IsLocalLoop, VariablesStand};
 
@@ -54,7 +54,7 @@ pub fn row_loop<'p: 'a, 'a>(
     requires stand { VariablesStand local.now cells.now }
     requires ways { 16 ≤ length ways.old }
     requires columns { length columns.old < 2 ^ 32 }
-    requires places { 16 ≤ length places.old }
+    requires places { length places.old ≡ length local.now.args.now }
     ensures { IfSome result (IsRowLoop local.now) }
 {
     steps_stand();
@@ -66,7 +66,6 @@ pub fn row_loop<'p: 'a, 'a>(
     let mut room = [0; MAX_ARGS];
     let numbers = &mut room[..site.args.len()];
     let ways = &mut ways[..site.args.len()];
-    let places = &mut places[..site.args.len()];
     put_ways(&site.args, local.args, numbers, ways);
     let count = put_columns(&site.args, local.args, numbers, columns, places)?;
     if count + local.scalars.len() + local.code.slots as usize > MOST_COLUMNS {

@@ -1,6 +1,7 @@
 // What is told of each run.
 
 use kernel_model::types::views::Place;
+use smallvec::SmallVec;
 
 /// A run: its element by its original number and by its place, and how many cells the element's windows have.
 #[derive(Clone, Copy)]
@@ -14,7 +15,7 @@ pub struct Task {
 pub const MOST_ARGS: usize = 16;
 
 /// Where the windows of a loop's arguments stand among the cells of an element's windows, by argument.
-#[derive(Clone, Copy)]
+#[derive(Drop)]
 pub struct Targets {
-    pub places: [Place; MOST_ARGS],
+    pub places: SmallVec<Place, MOST_ARGS>,
 }

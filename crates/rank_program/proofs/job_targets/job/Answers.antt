@@ -28,10 +28,6 @@ bounds-program-site c =
     code_there b c.parts-program.ensures.sound.planned.fits c.items_are_there.ensures.loops c.args.item c.loop_of-number.result t.is_loop c.loop_of-number.ensures
     c.parts-program.result.now.bound.now.sites.items refl c.index-site.result.now c.index-site.ensures c.parts-program.result.now.codes.now c.parts-program.ensures.sound.codes
 
--- the arguments are those of the item's loop
-args_are : (c : goal.After-args_of) → c.args_of.result.now ≡ (the.site_of (bound_of c.parts-program.result.now.bound.now) c.args.item).args
-args_are c = c.args_of.ensures ∙ ap (λ n. (site_at (bound_of c.parts-program.result.now.bound.now) n).args) c.loop_of-number.ensures
-
 pub returns-clause-accepts : goal.returns-clause-accepts
 returns-clause-accepts c i n lt room =
     let b = bound_of c.parts-program.result.now.bound.now in
@@ -43,16 +39,12 @@ returns-clause-accepts c i n lt room =
     c.parts-program.result.now.bound.now.sites.items refl c.index-site.result.now c.index-site.ensures in
     let there = code_there b c.parts-program.ensures.sound.planned.fits c.items_are_there.ensures.loops c.args.item c.loop_of-number.result t.is_loop c.loop_of-number.ensures
     c.parts-program.result.now.bound.now.sites.items refl c.index-site.result.now c.index-site.ensures c.parts-program.result.now.codes.now c.parts-program.ensures.sound.codes in
-    let count : length c.args_of.result.now ≡ length (the.site_of b c.args.item).args = ap length (args_are c) in
-    let few : length (site_of c.index-site.result.now).args ≤ 16 = fit.few in
-    let of_site : length c.args_of.result.now ≡ length (site_of c.index-site.result.now).args = count ∙ ap (λ (s : SiteValue). length s.args) same in
     let slots = c.parts-program.ensures.sound.room c.index-site.result.now.kernel c.index-program-site.result there in
     record {
       task = lt;
       targets = (targeted_of c.parts-program.ensures.are c.args.item c.args.tasks.now c.args.targets.now c.requires.targeted).count;
-      few = omega (arith, few, of_site);
       code = c.parts-program.ensures.sound.codes.each c.index-site.result.now.kernel c.index-program-site.result there;
-      params = of_site ∙ takes b c.parts-program.ensures.sound.planned.fits (site_of c.index-site.result.now) fit
+      params = ((targeted_of c.parts-program.ensures.are c.args.item c.args.tasks.now c.args.targets.now c.requires.targeted).each i lt).count ∙ ap (λ (s : SiteValue). length s.args) same ∙ takes b c.parts-program.ensures.sound.planned.fits (site_of c.index-site.result.now) fit
           (get_or c.parts-program.result.now.codes.now c.index-site.result.now.kernel c.index-program-site.result).kernel.now
           (c.parts-program.ensures.sound.codes.of_kernel c.index-site.result.now.kernel c.index-program-site.result
           (get_or c.parts-program.result.now.codes.now c.index-site.result.now.kernel c.index-program-site.result).kernel.now there);
@@ -61,8 +53,7 @@ returns-clause-accepts c i n lt room =
           (c.parts-program.ensures.sound.codes.of_kernel c.index-site.result.now.kernel c.index-program-site.result
           (get_or c.parts-program.result.now.codes.now c.index-site.result.now.kernel c.index-program-site.result).kernel.now there)
           (c.constants_are_read.ensures.numbered b c.parts-program.ensures.sound.planned.fits.constants) (length c.args.constants.now) t.constants;
-      fits = subst (λ m. PlacesIn (task_at c.args.tasks.now i).cells (places_in c.args.targets.now m i)) (sym count)
-          (subst (λ m. PlacesIn m (places_in c.args.targets.now (length (the.site_of b c.args.item).args) i)) (sym at.windows) ((targeted_of c.parts-program.ensures.are c.args.item c.args.tasks.now c.args.targets.now c.requires.targeted).each i lt).within);
+      fits = subst (λ m. PlacesIn m (places_in c.args.targets.now i)) (sym at.windows) ((targeted_of c.parts-program.ensures.are c.args.item c.args.tasks.now c.args.targets.now c.requires.targeted).each i lt).within;
       room = omega (arith, slots, room, ap (λ (z : DistributedProgram). z.locals) c.parts-program.ensures.are);
     }
 
@@ -77,14 +68,11 @@ returns-clause-core c i ws lt len =
     c.parts-program.result.now.bound.now.sites.items refl c.index-site.result.now c.index-site.ensures in
     let there = code_there b c.parts-program.ensures.sound.planned.fits c.items_are_there.ensures.loops c.args.item c.loop_of-number.result t.is_loop c.loop_of-number.ensures
     c.parts-program.result.now.bound.now.sites.items refl c.index-site.result.now c.index-site.ensures c.parts-program.result.now.codes.now c.parts-program.ensures.sound.codes in
-    let count : length c.args_of.result.now ≡ length (the.site_of b c.args.item).args = ap length (args_are c) in
     let kernel = kernel_of b c.parts-program.ensures.sound.planned.fits (site_of c.index-site.result.now) fit
     (get_or c.parts-program.result.now.codes.now c.index-site.result.now.kernel c.index-program-site.result).kernel.now
     (c.parts-program.ensures.sound.codes.of_kernel c.index-site.result.now.kernel c.index-program-site.result
     (get_or c.parts-program.result.now.codes.now c.index-site.result.now.kernel c.index-program-site.result).kernel.now there) in
-    ap (λ m. core_of (kernel_meaning (map target_of (places_in c.args.targets.now m i)) c.args.constants.now
-    (get_or c.parts-program.result.now.codes.now c.index-site.result.now.kernel c.index-program-site.result).kernel.now (ws ∷ []))) count
-    ∙ (ap (λ ts. core_of (kernel_meaning ts c.args.constants.now
+    (ap (λ ts. core_of (kernel_meaning ts c.args.constants.now
     (get_or c.parts-program.result.now.codes.now c.index-site.result.now.kernel c.index-program-site.result).kernel.now (ws ∷ [])))
     ((targeted_of c.parts-program.ensures.are c.args.item c.args.tasks.now c.args.targets.now c.requires.targeted).each i lt).places_are
     ∙ (ap (λ (s : SiteValue). core_of
@@ -92,13 +80,6 @@ returns-clause-core c i ws lt len =
     (get_or c.parts-program.result.now.codes.now c.index-site.result.now.kernel c.index-program-site.result).kernel.now (ws ∷ []))) same
     ∙ sym (ap (λ (s : SiteValue). site_core b s (task_at c.args.tasks.now i).element c.args.constants.now ws) same
     ∙ ap (λ o. core_with b o (site_of c.index-site.result.now) (task_at c.args.tasks.now i).element c.args.constants.now ws) kernel))))
-
-pub args_of-requires : goal.args_of-requires
-args_of-requires c =
-    let b = bound_of c.parts-program.result.now.bound.now in
-    let t = takes_of c.parts-program.ensures.are (c.requires.takes 0 c.requires.some) in
-    let lt = c.items_are_there.ensures.loops b c.args.item c.parts-program.ensures.sound.planned.fits t.is_loop in
-    omega (arith, lt, c.loop_of-number.ensures)
 
 pub loop_of-number-requires : goal.loop_of-number-requires
 loop_of-number-requires c = (takes_of c.parts-program.ensures.are (c.requires.takes 0 c.requires.some)).is_loop

@@ -7,7 +7,7 @@ use Rattle.rank_program.proofs.job_targets.push_targets.Given as goal
 
 abbrev pub invariant-loop-task : goal.invariant-loop-task
 invariant-loop-task l = record {
-  each : (j : ℕ) → j < l.task-index → AreTargets (bound_of l.bound) l.args (task_at l.tasks j) (places_in l.targets.items (length l.args) j);
+  each : (j : ℕ) → j < l.task-index → AreTargets (bound_of l.bound) l.args (task_at l.tasks j) (places_in l.targets.items j);
   count : length l.targets.items ≡ l.task-index;
   room : vec_capacity l.targets ≡ vec_capacity l.initial.targets;
 }

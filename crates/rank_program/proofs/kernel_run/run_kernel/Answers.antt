@@ -28,33 +28,20 @@ bounds-program-site c =
     code_there b c.parts-program.ensures.sound.planned.fits c.items_are_there.ensures.loops c.args.item c.loop_of-number.result t.is_loop c.loop_of-number.ensures
     c.parts-program.result.now.bound.now.sites.items refl c.index-site.result.now c.index-site.ensures c.parts-program.result.now.codes.now c.parts-program.ensures.sound.codes
 
-pub slice_bounds-room-end : goal.slice_bounds-room-end
-slice_bounds-room-end c =
+pub open_places-requires : goal.open_places-requires
+open_places-requires c =
     let b = bound_of c.parts-program.result.now.bound.now in
     let t = takes_of c.parts-program.ensures.are c.requires.takes in
     let few : length c.index-site.result.now.args.items ≤ 16 =
     (site_fit b c.parts-program.ensures.sound.planned.fits c.items_are_there.ensures.loops c.args.item c.loop_of-number.result t.is_loop c.loop_of-number.ensures
     c.parts-program.result.now.bound.now.sites.items refl c.index-site.result.now c.index-site.ensures).few in
-    omega (arith, few, c.len.ensures)
-
-pub slice_bounds-places-end : goal.slice_bounds-places-end
-slice_bounds-places-end c =
-    let b = bound_of c.parts-program.result.now.bound.now in
-    let t = takes_of c.parts-program.ensures.are c.requires.takes in
-    let few : length c.index-site.result.now.args.items ≤ 16 =
-    (site_fit b c.parts-program.ensures.sound.planned.fits c.items_are_there.ensures.loops c.args.item c.loop_of-number.result t.is_loop c.loop_of-number.ensures
-    c.parts-program.result.now.bound.now.sites.items refl c.index-site.result.now c.index-site.ensures).few in
-    sym (length-take-le c.len.result _ (omega (arith, few, c.len.ensures)))
+    let fits = c.requires.room.places_fit in
+    omega (arith, few, c.len.ensures, fits)
 
 pub put_frame-requires-clause-count : goal.put_frame-requires-clause-count
 put_frame-requires-clause-count c =
-    let b = bound_of c.parts-program.result.now.bound.now in
-    let t = takes_of c.parts-program.ensures.are c.requires.takes in
-    let few : length c.index-site.result.now.args.items ≤ 16 =
-    (site_fit b c.parts-program.ensures.sound.planned.fits c.items_are_there.ensures.loops c.args.item c.loop_of-number.result t.is_loop c.loop_of-number.ensures
-    c.parts-program.result.now.bound.now.sites.items refl c.index-site.result.now c.index-site.ensures).few in
     let long : c.len.result ≡ length c.index-site.result.now.args.items = omega (arith, c.len.ensures) in
-    length-take-le c.len.result _ (omega (arith, few, long)) ∙ long
+    ap length c.as_mut_slice-places.ensures.value ∙ c.open_places.ensures.count ∙ long
 
 pub put_frame-requires-clause-site : goal.put_frame-requires-clause-site
 put_frame-requires-clause-site c =
@@ -120,10 +107,11 @@ run_on-requires-clause-scratch c =
     let lt = code_there b c.parts-program.ensures.sound.planned.fits c.items_are_there.ensures.loops c.args.item c.loop_of-number.result t.is_loop c.loop_of-number.ensures
     c.parts-program.result.now.bound.now.sites.items refl c.index-site.result.now c.index-site.ensures c.parts-program.result.now.codes.now c.parts-program.ensures.sound.codes in
     let room = c.parts-program.ensures.sound.room c.index-site.result.now.kernel c.index-program-site.result lt in
-    omega (arith, room, c.requires.room, ap (λ (z : DistributedProgram). z.locals) c.parts-program.ensures.are)
+    let fits = c.requires.room.locals_fit in
+    omega (arith, room, fits, ap (λ (z : DistributedProgram). z.locals) c.parts-program.ensures.are)
 
-pub returns : goal.returns
-returns c =
+pub returns-clause-ran : goal.returns-clause-ran
+returns-clause-ran c =
     rw (sym c.parts-program.ensures.are) (
     let b = bound_of c.parts-program.result.now.bound.now in
     let t = takes_of c.parts-program.ensures.are c.requires.takes in

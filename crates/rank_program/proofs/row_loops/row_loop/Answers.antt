@@ -52,12 +52,10 @@ returns c =
     let at_most = c.requires.is.few in
     let few : length args ≤ 16 = omega (arith, same_few, at_most) in
     let way_count : c.len-2.result ≡ length args = c.len-2.ensures ∙ sym c.deref.ensures.len ∙ ap length one in
-    let place_count : c.len-3.result ≡ length args = c.len-3.ensures ∙ sym c.deref.ensures.len ∙ ap length one in
     let ways : length c.put_ways.new.ways ≡ length args =
     c.put_ways.auto.ways ∙ length-take-le c.len-2.result c.args.ways.now (omega (arith, way_count, few, c.requires.ways)) ∙ way_count in
     let places_long : length c.put_scalars.new.places ≡ length args =
-    c.put_scalars.auto.places ∙ c.put_columns.auto.places
-    ∙ length-take-le c.len-3.result c.args.places.now (omega (arith, place_count, few, c.requires.places)) ∙ place_count in
+    c.put_scalars.auto.places ∙ c.put_columns.auto.places ∙ c.requires.places ∙ same_few in
     let below = c.if-count-local-gt-MOST_COLUMNS.false in
     made l c.requires.is.sound c.requires.is c.steps_stand.ensures c.windows_stand.ensures.here c.windows_stand.ensures.cells
     c.element_windows_stand.ensures c.frames_are_reached.ensures c.requires.step.0 c.requires.step.1 c.args.cells.now c.requires.stand

@@ -26,16 +26,16 @@ returns g c i lt =
     let inside : (task_at c.args.job.now.tasks.now i).cells ≤ length (part c.args.window i c.args.staging.now) = omega (arith, whole, room) in
     let cells : length (take (task_at c.args.job.now.tasks.now i).cells (part c.args.window i c.args.staging.now)) ≡ (task_at c.args.job.now.tasks.now i).cells = grind (arith, common_steps) in
     let behind : 0 < length (part c.args.window i c.args.staging.now) - (task_at c.args.job.now.tasks.now i).cells = omega (arith, whole, room) in
-    let fits : Fits (map target_of (places_in c.args.job.now.targets.now c.args.job.now.args i)) (take (task_at c.args.job.now.tasks.now i).cells (part c.args.window i c.args.staging.now) ∷ []) =
-    places_fit (places_in c.args.job.now.targets.now c.args.job.now.args i) (take (task_at c.args.job.now.tasks.now i).cells (part c.args.window i c.args.staging.now))
-    (subst (λ n. PlacesIn n (places_in c.args.job.now.targets.now c.args.job.now.args i)) (sym cells) at.fits) in
+    let fits : Fits (map target_of (places_in c.args.job.now.targets.now i)) (take (task_at c.args.job.now.tasks.now i).cells (part c.args.window i c.args.staging.now) ∷ []) =
+    places_fit (places_in c.args.job.now.targets.now i) (take (task_at c.args.job.now.tasks.now i).cells (part c.args.window i c.args.staging.now))
+    (subst (λ n. PlacesIn n (places_in c.args.job.now.targets.now i)) (sym cells) at.fits) in
     let kept = (c.shape_stays.ensures c.args.job.now.code.now.kernel.now
-    (map target_of (places_in c.args.job.now.targets.now c.args.job.now.args i)) c.args.job.now.constants.now
+    (map target_of (places_in c.args.job.now.targets.now i)) c.args.job.now.constants.now
     (take (task_at c.args.job.now.tasks.now i).cells (part c.args.window i c.args.staging.now) ∷ []) fits).1 0 in
     let number : 0 + i ≡ i = omega arith in
     let left : part c.args.window i c.run_group.new.staging ≡ job_window c.args.job.now i (part c.args.window i c.args.staging.now) =
     c.run_group.ensures.each.became i here ∙ ap (λ n. job_window c.args.job.now n (part c.args.window i c.args.staging.now)) number in
-    ran_in (kernel_meaning (map target_of (places_in c.args.job.now.targets.now c.args.job.now.args i)) c.args.job.now.constants.now
+    ran_in (kernel_meaning (map target_of (places_in c.args.job.now.targets.now i)) c.args.job.now.constants.now
     c.args.job.now.code.now.kernel.now (take (task_at c.args.job.now.tasks.now i).cells (part c.args.window i c.args.staging.now) ∷ []))
     (task_at c.args.job.now.tasks.now i).cells
     (length (part c.args.window i c.args.staging.now) - (task_at c.args.job.now.tasks.now i).cells)
