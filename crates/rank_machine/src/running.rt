@@ -8,11 +8,12 @@ ghost use Rattle.rank_state.specs.Indices.{InLength, values_at};
 ghost use Rattle.rank_state.specs.Ordered.{Within_all, total_all, gathered_all, memories_after, variables_after};
 ghost use Rattle.rank_state.specs.Spare.{KeepsSpare};
 ghost use Rattle.rank_machine.specs.Machines.{ran_in};
+ghost use Rattle.rank_program.specs.Rooms.{HasKernelRoom};
 ghost use Rattle.rank_program.specs.Sound.{Takes, layout_in};
 
 use crate::windows::{KernelRun, OwnedWindows, Windows};
 use kernel_model::types::KernelFault;
-use rank_program::run_kernel;
+use rank_program::{KernelRoom, run_kernel};
 use rank_state::rank_memory::loading::load;
 use rank_state::rank_memory::owned::{load_all, put_back_values, scatter_all};
 
@@ -29,11 +30,11 @@ pub fn run_in(
     cells: &Cells<'_>,
     windows: &Windows<'_>,
     frame: &mut [i32],
-    scratch: &mut [i32],
+    room: &mut KernelRoom,
 ) -> Result<usize, KernelFault>
     requires takes { Takes run.now.program.now run.now.item run.now.element (length run.now.constants.now)
         (total windows.now.spans.now + length windows.now.scalars.now) }
-    requires locals { run.now.program.now.locals ≤ length scratch.old }
+    requires kernels { HasKernelRoom run.now.program.now.locals room.old }
     requires inside { Within (length cells.now.memory.now) windows.now.spans.now }
     requires reads { Reads (length cells.now.variables.now) windows.now.scalars.now }
     requires room { total windows.now.spans.now + length windows.now.scalars.now ≤ length frame.old }
@@ -41,6 +42,7 @@ pub fn run_in(
     ensures ran { ran_in frame.new result
         ≡ (layout_in run.now.program.now).core run.now.item run.now.element run.now.constants.now
         (gathered cells.now.memory.now windows.now.spans.now ++ firsts cells.now.variables.now windows.now.scalars.now) }
+    ensures kernels { HasKernelRoom run.now.program.now.locals room.new }
 {
     let (spans, scalars) = (windows.spans, windows.scalars);
     let count = load(cells.memory, spans, cells.variables, scalars, frame);
@@ -51,7 +53,7 @@ pub fn run_in(
         run.element,
         run.constants,
         window,
-        scratch,
+        room,
     ) {
         Ok(()) => Ok(count),
         Err(fault) => Err(fault),
@@ -65,11 +67,11 @@ pub fn run_owned(
     variables: &mut [i32],
     windows: &OwnedWindows<'_>,
     frame: &mut [i32],
-    scratch: &mut [i32],
+    room: &mut KernelRoom,
 ) -> Option<KernelFault>
     requires takes { Takes run.now.program.now run.now.item run.now.element (length run.now.constants.now)
         (total_all windows.now.spans.now + length windows.now.indices.now) }
-    requires locals { run.now.program.now.locals ≤ length scratch.old }
+    requires kernels { HasKernelRoom run.now.program.now.locals room.old }
     requires inside { Within_all (map (λ v. v.items) memories.old) windows.now.spans.now }
     requires reads { InLength (length variables.old) windows.now.indices.now }
     requires room { total_all windows.now.spans.now + length windows.now.indices.now ≤ length frame.old }
@@ -87,6 +89,7 @@ pub fn run_owned(
         ((layout_in run.now.program.now).core run.now.item run.now.element run.now.constants.now
         (gathered_all (map (λ v. v.items) memories.old) windows.now.spans.now ++ values_at variables.old windows.now.indices.now))
         variables.old }
+    ensures kernels { HasKernelRoom run.now.program.now.locals room.new }
 {
     let (spans, indices) = (windows.spans, windows.indices);
     let count = load_all(memories, spans, variables, indices, frame);
@@ -98,7 +101,7 @@ pub fn run_owned(
         run.element,
         run.constants,
         window,
-        scratch,
+        room,
     ) {
         Ok(()) => {
             scatter_all(memories, spans, &frame[..whole]);

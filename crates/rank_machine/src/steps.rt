@@ -1,19 +1,19 @@
 // Each begin and end of a list, on a machine whose lists show a state of the machine on flat buffers.
 
-ghost use Rattle.std.specs.Prelude.{◌≡◌, ◌≢◌, ◌<◌, ◌≤◌, ◌+◌, length};
+ghost use Rattle.std.specs.Prelude.{◌≡◌, ◌≢◌, ◌<◌, ◌+◌, length};
 ghost use Rattle.schedule_steps.specs.declared.step.Step.TheVariants.{Begin, End};
 ghost use Rattle.schedule_model.specs.Flat.{Shut_pane};
 ghost use Rattle.rank_state.specs.Frames.{Shut, pane_at};
 ghost use Rattle.rank_state.specs.Indices.{values_at};
 ghost use Rattle.rank_state.specs.Shows.{AreWindows, pane_in};
-ghost use Rattle.rank_program.specs.Rooms.{HasRoomOf};
+ghost use Rattle.rank_program.specs.Rooms.{HasKernelRoom, HasRoomOf};
 ghost use Rattle.rank_program.specs.Sound.{setup_in, layout_in, tables_in, HasStep};
 ghost use Rattle.rank_machine.specs.Shown.{IsShowing, StepDone};
 
 use crate::machine::Machine;
 use crate::windows::{Begun, Windows};
 use kernel_model::types::KernelFault;
-use rank_program::{Room, Runnable, original_at, owns_at, push_element};
+use rank_program::{KernelRoom, Room, Runnable, original_at, owns_at, push_element};
 
 /// Copies the values of all constants.
 pub fn read_constants(machine: &Machine, program: &Runnable<'_>, values: &mut Vec<i32>)
@@ -33,18 +33,19 @@ fn begin_on(
     element: Begun,
     windows: &Windows<'_>,
     constants: &[i32],
-    locals: &mut [i32],
+    room: &mut KernelRoom,
 )
     requires planned { HasStep program.now (Begin element.item element.rank element.place) }
     requires original { element.original ≡ (layout_in program.now).original element.item element.rank element.place }
     requires are { AreWindows (setup_in program.now) (layout_in program.now) (tables_in program.now)
         element.item element.rank element.place windows.now.spans.now windows.now.scalars.now }
     requires values { constants.now ≡ values_at machine.old.variables (tables_in program.now).constants }
-    requires locals { program.now.locals ≤ length locals.old }
+    requires kernels { HasKernelRoom program.now.locals room.old }
     requires shows { IsShowing program.now machine.old }
     requires shut { pane_at machine.old.frames.panes element.rank element.place ≡ Shut }
     requires room { 0 < machine.old.frames.left }
     ensures shows { StepDone program.now (Begin element.item element.rank element.place) machine.old machine.new }
+    ensures kernels { HasKernelRoom program.now.locals room.new }
     ensures mail { machine.new.mail.left ≡ machine.old.mail.left }
     ensures frames { machine.new.frames.left + 1 ≡ machine.old.frames.left }
 {
@@ -52,7 +53,7 @@ fn begin_on(
     rank_state::begin_shows::<KernelFault>();
     rank_state::steps_can::<KernelFault>();
     rank_state::windows_are_counted::<KernelFault>();
-    machine.begin(program, constants, element, windows, locals);
+    machine.begin(program, constants, element, windows, room);
 }
 
 /// A begin.
@@ -93,7 +94,7 @@ pub fn begin(
         element,
         &windows,
         &room.constants,
-        &mut room.kernels.locals,
+        &mut room.kernels,
     );
 }
 

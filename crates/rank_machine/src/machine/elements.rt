@@ -8,7 +8,7 @@ ghost use Rattle.rank_state.specs.Windows.{Reads, Merges};
 ghost use Rattle.rank_state.specs.Frames.{Shut, pane_at, Enough, Exactly};
 ghost use Rattle.rank_state.specs.Machine.{row, begun_as, ended, windows_of};
 ghost use Rattle.rank_state.specs.Shows.{Sized};
-ghost use Rattle.rank_program.specs.Rooms.{HasRoomOf};
+ghost use Rattle.rank_program.specs.Rooms.{HasKernelRoom, HasRoomOf};
 ghost use Rattle.rank_program.specs.AloneRuns.{AllBegin, Share, Reaches, share_of, with_share};
 ghost use Rattle.rank_program.specs.Sound.{Takes, setup_in, layout_in, tables_in};
 
@@ -17,7 +17,7 @@ use crate::running::{Cells, run_in};
 use crate::windows::{Begun, KernelRun, Windows};
 use kernel_runs::worker_batches::Workers;
 use par_exec::{Gate, ItemGate};
-use rank_program::{RankElements, Room, Runnable, run_places};
+use rank_program::{KernelRoom, RankElements, Room, Runnable, run_places};
 use rank_state::rank_memory::ending::Ending;
 use rank_state::rank_memory::loading::load;
 use rank_state::rank_memory::stop::least;
@@ -45,11 +45,11 @@ impl Machine {
         constants: &[i32],
         element: Begun,
         windows: &Windows<'_>,
-        scratch: &mut [i32],
+        room: &mut KernelRoom,
     )
         requires takes { Takes program.now element.item element.original (length constants.now)
             (total windows.now.spans.now + length windows.now.scalars.now) }
-        requires locals { program.now.locals ≤ length scratch.old }
+        requires kernels { HasKernelRoom program.now.locals room.old }
         requires rank { element.rank < length self.old.memories }
         requires frames { element.rank < length self.old.frames.panes }
         requires place { element.place < length (slice_index_or self.old.frames.panes element.rank []) }
@@ -58,10 +58,11 @@ impl Machine {
         requires inside { Within (length (row self.old.memories element.rank)) windows.now.spans.now }
         requires reads { Reads (length self.old.variables) windows.now.scalars.now }
         requires fits { total windows.now.spans.now + length windows.now.scalars.now ≤ self.old.frames.stride }
-        ensures { self.new
+        ensures state { self.new
             ≡ begun_as element.item element.rank element.place element.original
             ((layout_in program.now).core element.item element.original constants.now
             (windows_of self.old element.rank windows.now.spans.now windows.now.scalars.now)) self.old }
+        ensures kernels { HasKernelRoom program.now.locals room.new }
     {
         let Begun {
             item,
@@ -79,7 +80,7 @@ impl Machine {
             memory: &self.memories[rank as usize],
             variables: &self.variables,
         };
-        match run_in(&run, &cells, windows, &mut self.window, scratch) {
+        match run_in(&run, &cells, windows, &mut self.window, room) {
             Ok(count) => self.frames.open(item, rank, place, &self.window[..count]),
             Err(fault) => {
                 self.frames.open_broken(item, rank, place, fault);

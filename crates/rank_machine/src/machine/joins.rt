@@ -19,6 +19,7 @@ ghost use Rattle.rank_state.specs.Core.{fault_of};
 ghost use Rattle.rank_state.specs.Ordered.{Within_all, total_all, all_windows, left_in};
 ghost use Rattle.rank_state.specs.Indices.{InLength};
 ghost use Rattle.rank_state.specs.Stops.{stop_in};
+ghost use Rattle.rank_program.specs.Rooms.{HasKernelRoom};
 ghost use Rattle.rank_program.specs.Sound.{Takes, layout_in};
 
 use crate::machine::Machine;
@@ -28,6 +29,7 @@ use crate::windows::{KernelRun, OwnedWindows};
 use bound_program::{Mesh, ToldAct};
 use kernel_model::types::KernelFault;
 use op_num::{OutOfMemory, Text};
+use rank_program::KernelRoom;
 use rank_state::rank_memory::stop::{Stop, before};
 use rank_state::{Owned, Scalar};
 use run_model::gather::host_acts::{Variables, run_act};
@@ -58,11 +60,11 @@ impl Machine {
         &mut self,
         run: &KernelRun<'_>,
         windows: &OwnedWindows<'_>,
-        scratch: &mut [i32],
+        room: &mut KernelRoom,
     ) -> Option<KernelFault>
         requires takes { Takes run.now.program.now run.now.item run.now.element (length run.now.constants.now)
             (total_all windows.now.spans.now + length windows.now.indices.now) }
-        requires locals { run.now.program.now.locals ≤ length scratch.old }
+        requires kernels { HasKernelRoom run.now.program.now.locals room.old }
         requires inside { Within_all self.old.memories windows.now.spans.now }
         requires reads { InLength (length self.old.variables) windows.now.indices.now }
         requires room { total_all windows.now.spans.now + length windows.now.indices.now ≤ self.old.frames.stride }
@@ -73,6 +75,7 @@ impl Machine {
             ≡ left_in windows.now.spans.now windows.now.indices.now
             ((layout_in run.now.program.now).core run.now.item run.now.element run.now.constants.now
             (all_windows windows.now.spans.now windows.now.indices.now self.old)) self.old }
+        ensures kernels { HasKernelRoom run.now.program.now.locals room.new }
     {
         run_owned(
             run,
@@ -80,7 +83,7 @@ impl Machine {
             &mut self.variables,
             windows,
             &mut self.window,
-            scratch,
+            room,
         )
     }
 

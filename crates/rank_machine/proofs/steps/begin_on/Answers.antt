@@ -18,7 +18,7 @@ returns-clause-shows c f h =
     c.args.element.rank c.args.element.place
     ((layout_in c.args.program.now).original c.args.element.item c.args.element.rank c.args.element.place) c.args.windows.now.spans.now
     c.args.windows.now.scalars.now c.args.machine.now =
-    c.begin.ensures ∙ ap₂ (λ e r. begun_as c.args.element.item c.args.element.rank c.args.element.place e r c.args.machine.now)
+    c.begin.ensures.state ∙ ap₂ (λ e r. begun_as c.args.element.item c.args.element.rank c.args.element.place e r c.args.machine.now)
     c.requires.original (ap (λ v. (layout_in c.args.program.now).core c.args.element.item c.args.element.original v
     (windows_of c.args.machine.now c.args.element.rank c.args.windows.now.spans.now c.args.windows.now.scalars.now)) c.requires.values
     ∙ ap (λ e. (layout_in c.args.program.now).core c.args.element.item e
