@@ -1,6 +1,6 @@
 // The joins.
 
-ghost use Rattle.std.specs.Prelude.{◌≡◌, ◌<◌, ◌≤◌, true, length, None, IfOk};
+ghost use Rattle.std.specs.Prelude.{◌≡◌, ◌<◌, true, length, None, IfOk};
 ghost use Rattle.schedule_steps.specs.declared.step.Step.TheVariants.{Join};
 ghost use Rattle.schedule_model.specs.Program.{Reduce, Ordered, elements};
 ghost use Rattle.bound_program.specs.Values.{Ordered as OrderedItem};
@@ -11,7 +11,7 @@ ghost use Rattle.rank_state.specs.Indices.{values_at};
 ghost use Rattle.rank_state.specs.Ordered.{AreOwned, run_of, left_in};
 ghost use Rattle.rank_state.specs.Stops.{stop_in};
 ghost use Rattle.rank_exec.specs.Driving.{RanElement};
-ghost use Rattle.rank_program.specs.Rooms.{HasRoomOf};
+ghost use Rattle.rank_program.specs.Rooms.{HasKernelRoom, HasRoomOf};
 ghost use Rattle.rank_program.specs.Constants.{ConstantsStay};
 ghost use Rattle.rank_program.specs.Sound.{program_in, setup_in, layout_in, tables_in, HasStep};
 ghost use Rattle.rank_machine.specs.Shown.{IsShowing, StepDone};
@@ -24,7 +24,7 @@ use op_num::OutOfMemory;
 use rank_machine::machine::Machine;
 use rank_machine::steps::read_constants;
 use rank_machine::windows::{KernelRun, OwnedWindows};
-use rank_program::{Room, Runnable, push_owned_windows, reduced_scalars};
+use rank_program::{KernelRoom, Room, Runnable, push_owned_windows, reduced_scalars};
 use rank_state::rank_memory::stop::Stop;
 use std::alloc::Global;
 
@@ -47,14 +47,14 @@ fn run_one_on(
     machine: &mut Machine,
     run: &KernelRun<'_>,
     windows: &OwnedWindows<'_>,
-    locals: &mut [i32],
+    room: &mut KernelRoom,
 ) -> Option<KernelFault>
     requires kind { (setup_in run.now.program.now).program.kind run.now.item ≡ Ordered }
     requires element { run.now.element < elements (setup_in run.now.program.now).program run.now.item }
     requires are { AreOwned (setup_in run.now.program.now) (layout_in run.now.program.now) (tables_in run.now.program.now)
         run.now.item run.now.element windows.now.spans.now windows.now.indices.now }
     requires values { run.now.constants.now ≡ values_at machine.old.variables (tables_in run.now.program.now).constants }
-    requires locals { run.now.program.now.locals ≤ length locals.old }
+    requires kernels { HasKernelRoom run.now.program.now.locals room.old }
     requires shows { IsShowing run.now.program.now machine.old }
     ensures fault { result
         ≡ fault_of (run_of (layout_in run.now.program.now) (tables_in run.now.program.now)
@@ -63,11 +63,12 @@ fn run_one_on(
         ≡ left_in windows.now.spans.now windows.now.indices.now
         (run_of (layout_in run.now.program.now) (tables_in run.now.program.now)
         run.now.item run.now.element windows.now.spans.now windows.now.indices.now machine.old) machine.old }
+    ensures kernels { HasKernelRoom run.now.program.now.locals room.new }
 {
     run.program.is_sound();
     rank_state::steps_can::<KernelFault>();
     rank_state::windows_are_counted::<KernelFault>();
-    machine.element(run, windows, locals)
+    machine.element(run, windows, room)
 }
 
 // One element of an Ordered loop, with the values of all constants in the room; its fault, where it has one.
@@ -104,7 +105,7 @@ fn run_one(
         spans: &room.owned,
         indices,
     };
-    run_one_on(machine, &run, &windows, &mut room.kernels.locals)
+    run_one_on(machine, &run, &windows, &mut room.kernels)
 }
 
 // Copies the values of all constants anew, unless the elements of a loop are known to leave them.
